@@ -1,0 +1,49 @@
+-- Facts that depend on a test, from the two ways of the test.
+use mathlib.Core.Path.{_≡_, refl, sym, subst, _∙_}
+use mathlib.Core.Bool.{Bool, true, false, Bool·beq}
+use mathlib.Core.Logic.{⊎-elim}
+use Prim.Native.Nat.{ℕ, _+_, _<_}
+use native.Mathlib.Omega.{arith}
+use Rattle.std.proofs.shelf.Tests.{true≢false, false≢true, cases-eq}
+use Rattle.std.specs.Orderings.{Decides, When}
+
+pub pick : (b : Bool) (P Q : Type 0) → (b ≡ true → P) → (b ≡ false → Q) → When b P Q
+pick true P Q p q = p refl
+pick false P Q p q = q refl
+
+pub not-so : (b : Bool) → (b ≡ true → ⊥) → false ≡ b
+not-so true h = absurd (h refl)
+not-so false h = refl
+
+pub same-test : (t b : Bool) → Bool·beq t b ≡ true → t ≡ b
+same-test true true e = refl
+same-test true false e = absurd (false≢true e)
+same-test false true e = absurd (false≢true e)
+same-test false false e = refl
+
+pub other-test : (t b : Bool) → Bool·beq t b ≡ false → t ≡ b → ⊥
+other-test true true e h = true≢false e
+other-test true false e h = true≢false h
+other-test false true e h = false≢true h
+other-test false false e h = true≢false e
+
+-- two tests of one fact
+pub agree : {P : Type 0} (t b : Bool) → Decides t P → Decides b P → t ≡ b
+agree true true d k = refl
+agree true false d k = absurd (false≢true (k .1 (d .0 refl)))
+agree false true d k = absurd (false≢true (d .1 (k .0 refl)))
+agree false false d k = refl
+
+-- a test of all numbers below i, and one more
+module _ (P : ℕ → Type 0) (i : ℕ) where
+  abbrev Below : ℕ → Type 0
+  Below n = (k : ℕ) → k < n → P k
+
+  pub one-more : {t u : Bool} → u ≡ t → Decides t (Below i) → P i → Decides u (Below (i + 1))
+  one-more {t} {u} same d p = (
+    λ e k l. ⊎-elim (λ (eq : k ≡ i). subst P (sym eq) p) (λ (ne : k ≡ i → ⊥). d .0 (sym same ∙ e) k (omega (arith, ne))) (cases-eq k i),
+    λ h. same ∙ d .1 (λ k l. h k (omega arith)),
+  )
+
+  pub one-fails : {u : Bool} → u ≡ false → (P i → ⊥) → Decides u (Below (i + 1))
+  one-fails {u} off n = (λ e. absurd (false≢true (sym off ∙ e)), λ h. absurd (n (h i (omega arith))))

@@ -1,0 +1,10 @@
+pub mod Answering
+pub mod Bits
+pub mod Covering
+pub mod Mixing
+pub mod Places
+pub mod Rising
+pub mod Scans
+pub mod Unions
+pub mod Walks
+pub mod Writes
