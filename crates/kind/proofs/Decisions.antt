@@ -1,8 +1,8 @@
 -- Facts that depend on a test, from the two ways of the test.
 use mathlib.Core.Path.{_≡_, refl, sym, subst, _∙_}
-use mathlib.Core.Bool.{Bool, true, false, Bool·beq}
+use mathlib.Core.Bool.{Bool, true, false, cond, Bool·beq}
 use mathlib.Core.Logic.{⊎-elim}
-use Prim.Native.Nat.{ℕ, _+_, _<_}
+use Prim.Native.Nat.{ℕ, _+_, _≤_, _<_}
 use native.Mathlib.Omega.{arith}
 use Rattle.std.proofs.shelf.Tests.{true≢false, false≢true, cases-eq}
 use Rattle.std.specs.Orderings.{Decides, When}
@@ -47,3 +47,15 @@ module _ (P : ℕ → Type 0) (i : ℕ) where
 
   pub one-fails : {u : Bool} → u ≡ false → (P i → ⊥) → Decides u (Below (i + 1))
   one-fails {u} off n = (λ e. absurd (false≢true (sym off ∙ e)), λ h. absurd (n (h i (omega arith))))
+
+-- a digit that a test tells
+pub digit-is : (b : Bool) (v : ℕ) → v ≤ 1 → Decides b (v ≡ 1) → v ≡ cond b 1 0
+digit-is true v le d = d .0 refl
+digit-is false v le d = ⊎-elim (λ (e : v ≡ 1). absurd (false≢true (d .1 e))) (λ (ne : v ≡ 1 → ⊥). omega (arith, ne)) (cases-eq v 1)
+
+-- the other digit, where the test is not the one that was asked for
+pub other-digit : (b w : Bool) (v : ℕ) → v ≡ cond b 1 0 → Bool·beq b w ≡ false → v ≡ cond w 0 1
+other-digit true true v is e = absurd (true≢false e)
+other-digit true false v is e = is
+other-digit false true v is e = is
+other-digit false false v is e = absurd (true≢false e)

@@ -1,17 +1,24 @@
 -- What code has to show, so that what it answers about sets is what the answers say.
-use mathlib.Core.Path.{_≡_, refl, sym, _∙_}
+use mathlib.Core.Path.{_≡_, refl, sym, ap, _∙_}
 use mathlib.Core.Bool.{Bool, true, false, not}
 use mathlib.Core.Logic.{⊎-elim}
 use Prim.Native.Nat.{ℕ, _+_, _-_, _≤_, _<_}
 use native.Mathlib.Omega.{arith}
 use Rattle.std.specs.Orderings.{Decides}
 use Rattle.std.proofs.shelf.Tests.{cond-true, cond-false, cases-lt, false≢true}
-use Rattle.sets.specs.Members.{Difference, vacant, apart, covers, union, without}
+use Rattle.sets.specs.Members.{SameMembers, Has, Difference, vacant, apart, covers, union, without}
 use Rattle.kind.proofs.Decisions.{not-so, agree}
 use Rattle.sets.proofs.Unions.{Sets, all-leb, tells-empty}
 
 module _ {A : Type 0} {n : ℕ} {at : A → ℕ → ℕ} {of : (ℕ → ℕ) → A} (sets : Sets n at of) where
   open Sets sets using (one, same, made)
+
+  -- a set is the one that is made of its numbers
+  pub told : (x : A) (f : ℕ → ℕ) → ((k : ℕ) → f k ≤ 1) → Has n at f x → x ≡ of f
+  told x f few has = same x (of f) (λ k h. omega (arith, has k h, made f k h, few k))
+
+  pub same-members : (x y : A) (r : Bool) → Decides r (x ≡ y) → Decides r (SameMembers n at x y)
+  same-members x y r d = (λ e k h. ap (λ z. at z k) (d .0 e), λ h. d .1 (same x y h))
 
   pub vacant-is : (x : A) (r : Bool) → Decides r (x ≡ of (λ _. 0)) → r ≡ vacant n at x
   vacant-is x r d = agree r (vacant n at x) d (tells-empty sets x)

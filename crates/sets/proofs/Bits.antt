@@ -7,7 +7,7 @@ use native.Mathlib.Nat.{pow-suc, ℕ-set}
 use native.Mathlib.Numerals.{one-add}
 use native.Mathlib.Bridge.{le-prop}
 use native.Mathlib.Omega.{arith}
-use lib.Bits.{bitAnd, bitOr, bitXor, or-add-and, and-le-l, and-le-r, xor-lt, and-shr, and-step, xor-shr, xor-step, differ}
+use lib.Bits.{bitAnd, bitOr, bitXor, or-add-and, and-le-l, and-le-r, xor-lt, and-shr, and-step, xor-shr, xor-step, xor-add-and, differ}
 use lib.Dec.{eqb}
 use lib.ListN.{length, getD}
 use lib.Pow.{pow-pos, pow-mono}
@@ -230,6 +230,11 @@ module _ (n from to : ℕ) (bs : List ℕ) (h : (i : ℕ) → i < n → getD bs 
       z ∙ grind (arith, tells))
       (cases-lt k to))
       (cases-lt k from)
+
+-- ---- what two numbers do not share
+
+pub xor-none : (a b : ℕ) → bitXor a b ≡ 0 → a ≡ b
+xor-none a b e = omega (arith, xor-add-and a b, and-le-l a b, and-le-r a b)
 
 -- ---- numbers joined to one number, which is 0 if each is
 

@@ -1,6 +1,7 @@
 pub mod Answering
 pub mod Bits
 pub mod Covering
+pub mod Firsts
 pub mod Mixing
 pub mod Places
 pub mod Rising

@@ -11,8 +11,14 @@ use Rattle.std.proofs.shelf.Lists.{length-append, length-replicate}
 use Rattle.std.proofs.shelf.Tests.{and-from, cases-bool, cases-eq, cases-lt, cond-true, cond-false, eqb-true, eqb-false, eq-eqb, ne-eqb, le-leb, lt-ltb}
 use Rattle.std.proofs.shelf.Ways.{tells}
 use Rattle.sets.specs.Ends.{place}
-use Rattle.sets.specs.Runs.{run, blank, is-blank, within, covered, all-blank, ordered, tidy, put-before, runs-from, runs-of, in-places}
+use Rattle.sets.specs.Runs.{run, is-run, blank, is-blank, within, covered, all-blank, ordered, tidy, put-before, runs-from, runs-of, in-places}
 use Rattle.sets.specs.declared.run.Run.{Run}
+
+pub within-le : (from to k : ℕ) → within from to k ≤ 1
+within-le from to k = grind (arith, tells)
+
+pub is-run-when : (n from to : ℕ) → from < to → to ≤ n → is-run n from to ≡ true
+is-run-when n from to lt le = and-from _ _ (lt-ltb from to lt) (le-leb to n le)
 
 -- runs in order, from `low` on and up to n, with no unused place
 abbrev pub Runs : ℕ → ℕ → List Run → Type 0

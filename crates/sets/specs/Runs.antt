@@ -9,6 +9,10 @@ use Rattle.sets.specs.declared.run.Run.{Run}
 abbrev pub run : ℕ → ℕ → Run
 run from to = record { from = from; to = to }
 
+-- is from..to a run of numbers below n?
+abbrev pub is-run : ℕ → ℕ → ℕ → Bool
+is-run n from to = ltb from to && leb to n
+
 -- an unused place
 abbrev pub blank : Run
 blank = run 0 0

@@ -1,0 +1,3 @@
+pub mod FrameSets
+pub mod Listed
+pub mod Sizes

@@ -1,0 +1,7 @@
+// Frames: sets of frame numbers that unite if they share none.
+mod frames;
+mod runs;
+
+pub use frames::Frames;
+pub use frames::algebra::FramesKind;
+pub use runs::FrameRuns;
