@@ -7,5 +7,6 @@ pub mod Places
 pub mod Rising
 pub mod Scans
 pub mod Unions
+pub mod Used
 pub mod Walks
 pub mod Writes

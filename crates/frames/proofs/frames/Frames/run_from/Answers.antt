@@ -38,5 +38,5 @@ returns c =
       d .1,
       scan-skip f 256 at (s - at) s (omega arith) (b .1) (c .next-frame-from .ensures .before)
           ∙ scan-first f 256 s (e - s - 1) e (omega arith) (d .1)
-              (λ j ge lt z. omega (arith, c .next-frame-to .ensures .before j ge lt)) (c .next-frame-to .ensures .found),
+          (λ j ge lt z. omega (arith, c .next-frame-to .ensures .before j ge lt)) (c .next-frame-to .ensures .found),
     )

@@ -1,0 +1,5 @@
+// Windows: sets of seconds of a signal cycle that unite if they share none.
+mod windows;
+
+pub use windows::Windows;
+pub use windows::algebra::WindowsKind;
