@@ -6,7 +6,8 @@ use Prim.Native.Nat.{ℕ, zero, suc, _+_, _-_, _≤_, _<_}
 use native.Mathlib.Omega.{arith}
 use lib.Dec.{eqb}
 use Rattle.std.proofs.shelf.Tests.{cond-true, cond-false, cases-lt, cases-eq, eq-eqb, ne-eqb}
-use Rattle.sets.specs.Runs.{run, put-before, runs-from}
+use Rattle.std.proofs.shelf.Ways.{tells}
+use Rattle.sets.specs.Runs.{run, within, put-before, runs-from, runs-of}
 use Rattle.sets.specs.declared.run.Run.{Run}
 use Rattle.sets.proofs.Scans.{Runs, scan-in, scan-out, scan-runs}
 
@@ -54,3 +55,17 @@ scan-first f n s (suc d) e is le in-it out =
   where
     put-grows : (s e : ℕ) (rs : List Run) → put-before s (run (suc s) e ∷ rs) ≡ run s e ∷ rs
     put-grows s e rs = cond-true _ _ _ (eq-eqb (suc s) (suc s) refl)
+
+-- the numbers of one run have that run alone
+pub one-run : (n from to : ℕ) → from < to → to ≤ n → runs-of n (within from to) ≡ run from to ∷ []
+unfolding runs-from
+one-run n from to lt le =
+    let f = within from to in
+    let none : n - n ≡ 0 = omega arith in
+    let before : (j : ℕ) → j < from → f j ≡ 0 = λ j h. grind (arith, tells) in
+    let after : (j : ℕ) → to ≤ j → f j ≡ 0 = λ j h. grind (arith, tells) in
+    let inside : (j : ℕ) → from ≤ j → j < to → f j ≡ 1 = λ j h k. grind (arith, tells) in
+    ap (λ d. runs-from f d 0) (omega arith)
+    ∙ scan-skip f n 0 from from (omega arith) (omega arith) (λ j ge h. before j h)
+    ∙ scan-first f n from (to - from - 1) to (omega arith) le (λ j ge h z. omega (arith, inside j ge h)) (λ _. after to (omega arith))
+    ∙ ap (λ rs. run from to ∷ rs) (scan-skip f n to (n - to) n (omega arith) (omega arith) (λ j ge h. after j ge) ∙ ap (λ d. runs-from f d n) none)

@@ -77,6 +77,18 @@ scan-runs f n (suc d) k e =
     (λ (z : f k ≡ 0 → ⊥). subst (Runs n k) (sym (scan-in f d k z)) (put-runs n k _ (omega arith) ih))
     (cases-eq (f k) 0)
 
+-- the same numbers have the same runs
+pub scan-same : (f g : ℕ → ℕ) (d k : ℕ) → ((j : ℕ) → k ≤ j → j < k + d → min (f j) 1 ≡ min (g j) 1) → runs-from f d k ≡ runs-from g d k
+unfolding runs-from
+scan-same f g zero k h = refl
+scan-same f g (suc d) k h =
+    let ih = scan-same f g d (suc k) (λ j ge lt. h j (omega arith) (omega arith)) in
+    let here = h k (omega arith) (omega arith) in
+    ⊎-elim
+    (λ (z : f k ≡ 0). scan-out f d k z ∙ ih ∙ sym (scan-out g d k (omega arith)))
+    (λ (z : f k ≡ 0 → ⊥). scan-in f d k z ∙ ap (put-before k) ih ∙ sym (scan-in g d k (λ e. omega (arith, z))))
+    (cases-eq (f k) 0)
+
 -- ---- what they cover
 
 runs-covered-below : (n low : ℕ) (rs : List Run) (j : ℕ) → Runs n low rs → j < low → covered rs j ≡ 0

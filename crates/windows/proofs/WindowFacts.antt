@@ -7,13 +7,13 @@ use Prim.Native.Nat.{ℕ, _≤_, _<_, min}
 use native.Mathlib.Omega.{arith}
 use Rattle.std.proofs.shelf.Tests.{cases-eq}
 use Rattle.sets.specs.Ends.{place, end-of}
-use Rattle.sets.specs.Runs.{tidy}
+use Rattle.sets.specs.Runs.{tidy, runs-of}
 use Rattle.sets.proofs.Covering.{end-is, covered-at, covered-le, same-runs}
 use Rattle.sets.proofs.Places.{Tidy, tidy-places}
-use Rattle.sets.proofs.Scans.{places-cover}
+use Rattle.sets.proofs.Scans.{places-cover, scan-same}
 use Rattle.sets.proofs.Unions.{Sets}
 use Rattle.windows.specs.Sizes.{second-count, window-places}
-use Rattle.windows.specs.WindowSets.{window, windows-of}
+use Rattle.windows.specs.WindowSets.{window, windows-of, window-runs}
 use Rattle.windows.specs.declared.windows.Windows.{Windows}
 
 pub tidy-of : (x : Windows) → Tidy second-count window-places (x .runs)
@@ -58,3 +58,7 @@ none-blank x e =
 
 pub window-sets : Sets second-count window windows-of
 window-sets = record { one = one; same = same; made = made }
+
+-- the runs of a set are those of the numbers that it is made of
+pub runs-made : (f : ℕ → ℕ) → window-runs (windows-of f) ≡ runs-of second-count f
+runs-made f = scan-same (window (windows-of f)) f second-count 0 (λ j ge lt. omega (arith, made f j (omega arith)))
