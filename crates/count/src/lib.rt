@@ -2,4 +2,4 @@
 mod count;
 
 pub use count::Count;
-pub use count::ops::CountKind;
+pub use count::algebra::CountKind;

@@ -8,7 +8,7 @@ use Rattle.count.specs.Counts.{within-top, count-of}
 use Rattle.count.specs.Top.{top}
 use Rattle.count.proofs.Same.{same}
 use Rattle.kind.proofs.Decisions.{pick}
-use Rattle.count.proofs.count.ops.CountKind.the-impl.Needs as need
+use Rattle.count.proofs.count.algebra.CountKind.the-impl.Needs as need
 
 pub functional-law : need.functional-law
 functional-law x y z z' p q = same z z' (sym p ∙ q)

@@ -1,31 +1,17 @@
-// Counts are made from numbers and add up as long as the sum is a count.
+// Counts as a kind: they add up as long as the sum is a count.
 use crate::count::Count;
-use kind::AmountRefusal;
+use crate::count::TOP;
 use kind::Kind;
-ghost use Rattle.count.specs.Counts.{Sums, make-count, count-answers};
-ghost use Rattle.count.specs.Top.{top};
+ghost use Rattle.count.specs.Counts.{count-of, Sums, count-answers};
 ghost use Rattle.std.specs.Orderings.{Decides};
-ghost use Rattle.std.specs.Vec.{made};
 ghost use mathlib.Core.Path.{_≡_};
 
 impl Count {
-    // The count of `value`, refused above `TOP`.
-    pub fn new(value: u32) -> Result<Count, AmountRefusal>
-        ensures answer { λ r. ⌜ r ≡ make-count value ⌝ }
-        ensures contents { λ r. ⌜ made r (λ c. c .value ≡ value) ⌝ }
+    // Nothing.
+    fn none() -> Count
+        ensures { λ r. ⌜ r ≡ count-of 0 ⌝ }
     {
-        if value <= Count::TOP {
-            Ok(Count { value })
-        } else {
-            Err(AmountRefusal::CountTooLarge)
-        }
-    }
-
-    // The number.
-    pub fn value(&self) -> u32
-        ensures { λ r. ⌜ r ≡ now (self .entry) .value ⌝ }
-    {
-        self.value
+        Count { value: 0 }
     }
 }
 
@@ -35,7 +21,7 @@ pub impl Kind for Count as CountKind {
     ghost answers = { count-answers };
 
     fn empty() -> Self {
-        Count { value: 0 }
+        Count::none()
     }
 
     fn is_empty(&self) -> bool {
@@ -50,15 +36,15 @@ pub impl Kind for Count as CountKind {
     }
 
     fn fits(&self, other: &Self) -> bool {
-        self.value + other.value <= Count::TOP
+        self.value + other.value <= TOP
     }
 
     fn join(&self, other: &Self) -> Self {
         let value = self.value + other.value;
-        if value <= Count::TOP {
+        if value <= TOP {
             Count { value }
         } else {
-            Count { value: 0 }
+            Count::none()
         }
     }
 
@@ -67,12 +53,12 @@ pub impl Kind for Count as CountKind {
     }
 
     fn remainder(&self, part: &Self) -> Self {
-        if part.value <= self.value {
+        if self.holds(part) {
             Count {
                 value: self.value - part.value,
             }
         } else {
-            Count { value: 0 }
+            Count::none()
         }
     }
 }
