@@ -1,2 +1,3 @@
 pub mod Algebra
+pub mod Joins
 pub mod Refusals

@@ -6,7 +6,7 @@ use Prim.Native.Nat.{ℕ, _+_, _-_, _≤_, _<_}
 use native.Mathlib.Omega.{arith}
 use Rattle.std.specs.Orderings.{Decides}
 use Rattle.std.proofs.shelf.Tests.{cond-true, cond-false, cases-lt, false≢true}
-use Rattle.sets.specs.Members.{SameMembers, Has, Difference, vacant, apart, covers, union, without}
+use Rattle.sets.specs.Members.{SameMembers, Has, OneOfTwo, vacant, apart, covers, union, without}
 use Rattle.kind.proofs.Decisions.{not-so, agree}
 use Rattle.sets.proofs.Unions.{Sets, all-leb, tells-empty}
 
@@ -42,8 +42,8 @@ module _ {A : Type 0} {n : ℕ} {at : A → ℕ → ℕ} {of : (ℕ → ℕ) →
   pub not-covers : (z x : A) → (((k : ℕ) → k < n → at x k ≤ at z k) → ⊥) → false ≡ covers n at z x
   not-covers z x h = not-so (covers n at z x) (λ e. h (all-leb n (at x) (at z) .0 e))
 
-  -- sets that are apart mix to their union, and a set mixed with its part is what is left
-  pub joins : (x y r : A) → apart n at x y ≡ true → Difference n at x y r → r ≡ union n at of x y
+  -- the numbers in one of two sets that are apart are their union, and those in one of a set and its part are what is left
+  pub joins : (x y r : A) → apart n at x y ≡ true → OneOfTwo n at x y r → r ≡ union n at of x y
   joins x y r e m =
       let f : ℕ → ℕ = λ k. at x k + at y k in
       same r _ (λ k h. omega (arith, m k h, made f k h, all-leb n f (λ _. 1) .0 e k h)) ∙ sym (cond-true _ _ _ e)
@@ -51,7 +51,7 @@ module _ {A : Type 0} {n : ℕ} {at : A → ℕ → ℕ} {of : (ℕ → ℕ) →
   pub joins-none : (x y : A) → apart n at x y ≡ false → of (λ _. 0) ≡ union n at of x y
   joins-none x y e = sym (cond-false _ _ _ e)
 
-  pub leaves : (z x r : A) → covers n at z x ≡ true → Difference n at z x r → r ≡ without n at of z x
+  pub leaves : (z x r : A) → covers n at z x ≡ true → OneOfTwo n at z x r → r ≡ without n at of z x
   leaves z x r e m =
       let f : ℕ → ℕ = λ k. at z k - at x k in
       same r _ (λ k h. omega (arith, m k h, made f k h, one z k, all-leb n (at x) (at z) .0 e k h)) ∙ sym (cond-true _ _ _ e)

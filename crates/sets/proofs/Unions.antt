@@ -9,7 +9,7 @@ use Rattle.std.specs.Orderings.{Decides, When}
 use Rattle.std.proofs.shelf.Tests.{leb-true, le-leb, cond-true, cond-false, cases-lt, false≢true}
 use Rattle.std.proofs.shelf.Ways.{decides-below-and}
 use Rattle.kind.specs.Algebra.{Functional, Commutative, Associative, Neutral, Cancellative, Positive, TellsFit, GivesJoin, TellsPart, GivesRemainder, TellsEmpty}
-use Rattle.sets.specs.Members.{all-below, Difference, DisjointUnion, vacant, apart, covers, union, without, set-answers}
+use Rattle.sets.specs.Members.{all-below, DisjointUnion, vacant, apart, covers, union, without, set-answers}
 use Rattle.kind.proofs.Decisions.{pick}
 
 -- a test at each number decides what it tests of each

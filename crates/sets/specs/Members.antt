@@ -24,8 +24,8 @@ module _ {A : Type 0} (n : ℕ) (at : A → ℕ → ℕ) where
   DisjointUnion x y z = (k : ℕ) → k < n → at x k + at y k ≡ at z k
 
   -- z has the numbers that are in one of x and y but not in both
-  abbrev pub Difference : A → A → A → Type 0
-  Difference x y z = (k : ℕ) → k < n → at z k + 2 * min (at x k) (at y k) ≡ at x k + at y k
+  abbrev pub OneOfTwo : A → A → A → Type 0
+  OneOfTwo x y z = (k : ℕ) → k < n → at z k + 2 * min (at x k) (at y k) ≡ at x k + at y k
 
   -- no number is in x
   abbrev pub vacant : A → Bool

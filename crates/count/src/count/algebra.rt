@@ -2,8 +2,12 @@
 use crate::count::Count;
 use crate::count::TOP;
 use kind::Kind;
+ghost use Prim.Native.Nat.{_+_, _≤_, _<_};
 ghost use Rattle.count.specs.Counts.{count-of, Sums, count-answers};
+ghost use Rattle.count.specs.Top.{top};
+ghost use Rattle.std.specs.Options.{Cases};
 ghost use Rattle.std.specs.Orderings.{Decides};
+ghost use lib.Dec.{eqb};
 ghost use mathlib.Core.Path.{_≡_};
 
 impl Count {
@@ -13,6 +17,28 @@ impl Count {
     {
         Count { value: 0 }
     }
+
+    // Is it the count of the same number?
+    fn same_value(&self, other: &Count) -> bool
+        ensures { λ r. ⌜ r ≡ eqb (now (self .entry) .value) (now (other .entry) .value) ⌝ }
+    {
+        self.value == other.value
+    }
+
+    // The sum, if it is a count.
+    fn sum(&self, other: &Count) -> Option<u32>
+        ensures { λ r. ⌜ Cases r (top < now (self .entry) .value + now (other .entry) .value) (λ v. (v ≡ now (self .entry) .value + now (other .entry) .value) × (v ≤ top)) ⌝ }
+    {
+        let value = self.value + other.value;
+        if value <= TOP { Some(value) } else { None }
+    }
+
+    // What is left without `part`, if this is at least as much.
+    fn without(&self, part: &Count) -> Option<u32>
+        ensures { λ r. ⌜ Cases r (now (self .entry) .value < now (part .entry) .value) (λ v. v + now (part .entry) .value ≡ now (self .entry) .value) ⌝ }
+    {
+        self.value.checked_sub(part.value)
+    }
 }
 
 pub impl Kind for Count as CountKind {
@@ -21,7 +47,7 @@ pub impl Kind for Count as CountKind {
     ghost answers = { count-answers };
 
     fn empty() -> Self {
-        Count::none()
+        Self::none()
     }
 
     fn is_empty(&self) -> bool {
@@ -32,19 +58,17 @@ pub impl Kind for Count as CountKind {
         ensures { λ r. ⌜ Decides r (now (self .entry) ≡ now (other .entry)) ⌝ }
         ensures { λ r. ⌜ Decides r (now (self .entry) .value ≡ now (other .entry) .value) ⌝ }
     {
-        self.value == other.value
+        self.same_value(other)
     }
 
     fn fits(&self, other: &Self) -> bool {
-        self.value + other.value <= TOP
+        self.sum(other).is_some()
     }
 
     fn join(&self, other: &Self) -> Self {
-        let value = self.value + other.value;
-        if value <= TOP {
-            Count { value }
-        } else {
-            Count::none()
+        match self.sum(other) {
+            Some(value) => Count { value },
+            None => Count::none(),
         }
     }
 
@@ -53,12 +77,9 @@ pub impl Kind for Count as CountKind {
     }
 
     fn remainder(&self, part: &Self) -> Self {
-        if self.holds(part) {
-            Count {
-                value: self.value - part.value,
-            }
-        } else {
-            Count::none()
+        match self.without(part) {
+            Some(value) => Count { value },
+            None => Count::none(),
         }
     }
 }

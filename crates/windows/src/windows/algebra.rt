@@ -26,7 +26,7 @@ pub impl Kind for Windows as WindowsKind {
     ghost answers = { windows-answers };
 
     fn empty() -> Self {
-        Windows::none()
+        Self::none()
     }
 
     fn is_empty(&self) -> bool {

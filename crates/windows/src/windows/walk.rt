@@ -5,11 +5,11 @@ use crate::windows::Windows;
 use sets::Run;
 ghost use Prim.Native.Nat.{ℕ, _+_, _*_, _≤_, _<_};
 ghost use Rattle.sets.specs.Ends.{end-of, end-in-place};
-ghost use Rattle.sets.specs.Members.{Difference};
+ghost use Rattle.sets.specs.Members.{OneOfTwo};
 ghost use Rattle.std.specs.Orderings.{Decides};
 ghost use Rattle.windows.specs.Sizes.{second-count, window-places};
-ghost use Rattle.windows.specs.WindowSets.{window, Reaches};
-ghost use mathlib.Core.Bool.{cond};
+ghost use Rattle.windows.specs.WindowSets.{window, Reaches, windows-answers};
+ghost use mathlib.Core.Bool.{true, false, not, cond};
 ghost use mathlib.Core.Path.{_≡_};
 
 // Writes end `q` of the runs: a `from` if `q` is even, else a `to`.
@@ -49,7 +49,9 @@ impl Windows {
 
     // Is some second of this inside `other`, or outside it, as `inside` says?
     pub(crate) fn reaches(&self, other: &Windows, inside: bool) -> bool
-        ensures { λ r. ⌜ Decides r (Reaches (now (self .entry)) (now (other .entry)) (cond inside 1 0)) ⌝ }
+        ensures found { λ r. ⌜ Decides r (Reaches (now (self .entry)) (now (other .entry)) (cond inside 1 0)) ⌝ }
+        ensures fits { λ r. ⌜ (inside ≡ true → not r ≡ windows-answers .fits (now (self .entry)) (now (other .entry))) ⌝ }
+        ensures holds { λ r. ⌜ (inside ≡ false → not r ≡ windows-answers .holds (now (other .entry)) (now (self .entry))) ⌝ }
     {
         let mut i = 0;
         let mut j = 0;
@@ -76,7 +78,9 @@ impl Windows {
 
     // The seconds that are in one of the two but not in both: an end that both have is none of theirs.
     pub(crate) fn difference(&self, other: &Windows) -> Windows
-        ensures { λ r. ⌜ Difference second-count window (now (self .entry)) (now (other .entry)) r ⌝ }
+        ensures members { λ r. ⌜ OneOfTwo second-count window (now (self .entry)) (now (other .entry)) r ⌝ }
+        ensures joined { λ r. ⌜ (windows-answers .fits (now (self .entry)) (now (other .entry)) ≡ true → r ≡ windows-answers .join (now (self .entry)) (now (other .entry))) ⌝ }
+        ensures left { λ r. ⌜ (windows-answers .holds (now (self .entry)) (now (other .entry)) ≡ true → r ≡ windows-answers .remainder (now (self .entry)) (now (other .entry))) ⌝ }
     {
         let mut runs = [Run { from: 0, to: 0 }; PLACES];
         let mut i = 0;

@@ -9,13 +9,14 @@ use Rattle.sets.specs.Ends.{end-of, end-in-place}
 use Rattle.sets.specs.Runs.{blank}
 use Rattle.sets.specs.declared.run.Run.{Run}
 use Rattle.windows.specs.declared.windows.Windows.{Windows}
+use Rattle.sets.proofs.Answering.{joins, leaves}
 use Rattle.sets.proofs.Covering.{ends-rise}
 use Rattle.sets.proofs.Rising.{Rises}
 use Rattle.sets.proofs.Places.{places-tidy}
 use Rattle.sets.proofs.Writes.{place-blank}
 use Rattle.sets.proofs.Walks.{step}
 use Rattle.sets.proofs.Mixing.{Mixed, mixed-none, mixed-both, mixed-put, mixed-tidy, mixed-mixes, room-left, room-right, sum-left, sum-right}
-use Rattle.windows.proofs.WindowFacts.{tidy-of}
+use Rattle.windows.proofs.WindowFacts.{tidy-of, window-sets}
 use Rattle.windows.proofs.windows.Windows.difference.Needs as need
 
 rises : (x : Windows) → Rises second-count (end-of second-count (x .runs))
@@ -77,8 +78,9 @@ returns-then-b-gt-SECONDS c =
     let y = c .args .other .now in
     let va = c .end-a .ensures .value in
     let vb = c .end-b .ensures .value in
-    mixed-mixes second-count window-places (omega arith) (x .runs) (y .runs) (c .walk .runs) (tidy-of x) (tidy-of y) (c .walk .i) (c .walk .j) (c .walk .n) (c .walk .inv)
-    (omega arith) (omega arith)
+    let one = mixed-mixes second-count window-places (omega arith) (x .runs) (y .runs) (c .walk .runs) (tidy-of x) (tidy-of y) (c .walk .i) (c .walk .j) (c .walk .n) (c .walk .inv)
+    (omega arith) (omega arith) in
+    record { members = one; joined = λ e. joins window-sets x y _ e one; left = λ e. leaves window-sets x y _ e one }
 
 pub walk-again-then-a-b : need.walk-again-then-a-b
 walk-again-then-a-b c =

@@ -6,7 +6,7 @@ use Rattle.std.proofs.shelf.Tests.{eqb-true, eq-eqb}
 use Rattle.sets.proofs.Answering.{covers-is}
 use Rattle.sets.proofs.Bits.{part-bits, part-bytes, gathers-none, gathers-more, xor-none}
 use Rattle.frames.proofs.FrameFacts.{frame-sets}
-use Rattle.frames.proofs.frames.algebra.FramesKind.holds.Needs as need
+use Rattle.frames.proofs.frames.Frames.missing_bits.Needs as need
 
 pub loop-i-holds : need.loop-i-holds
 loop-i-holds c = gathers-none _

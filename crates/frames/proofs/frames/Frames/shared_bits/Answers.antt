@@ -3,7 +3,7 @@ use Rattle.std.proofs.shelf.Tests.{eqb-true, eq-eqb}
 use Rattle.sets.proofs.Bits.{apart-bits, apart-bytes, gathers-none, gathers-more}
 use Rattle.frames.proofs.FrameFacts.{frame-sets}
 use Rattle.sets.proofs.Answering.{apart-is}
-use Rattle.frames.proofs.frames.algebra.FramesKind.fits.Needs as need
+use Rattle.frames.proofs.frames.Frames.shared_bits.Needs as need
 
 pub loop-i-holds : need.loop-i-holds
 loop-i-holds c = gathers-none _

@@ -1,7 +1,7 @@
 use lib.Bits.{bitAnd, bitXor}
 use lib.ListN.{getD}
 use Rattle.sets.proofs.Bits.{Gathers}
-use Rattle.frames.proofs.frames.algebra.FramesKind.holds.Given as given
+use Rattle.frames.proofs.frames.Frames.missing_bits.Given as given
 
 abbrev pub Inv-loop-i : given.InvT-loop-i
 Inv-loop-i l =
