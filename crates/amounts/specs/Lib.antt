@@ -1,0 +1,4 @@
+pub mod Judging
+pub mod Laws
+pub mod Reading
+pub mod Showing

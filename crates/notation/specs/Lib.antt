@@ -1,0 +1,10 @@
+pub mod Cut
+pub mod Examples
+pub mod Forms
+pub mod Laws
+pub mod Left
+pub mod LinesLeft
+pub mod Numbers
+pub mod Spans
+pub mod Texts
+pub mod Words

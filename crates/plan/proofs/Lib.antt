@@ -1,0 +1,6 @@
+mod Balance
+mod Engine
+mod Shared
+mod Stages
+mod Texts
+mod Visible
