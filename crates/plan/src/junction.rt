@@ -1,7 +1,7 @@
 // What a junction holds, and whether a stage fits.
+use count::CountKind;
 use frames::Frames;
 use frames::FramesKind;
-use count::CountKind;
 use kind::Kind;
 use kinds::BundleKind;
 use kinds::EngineAmount;

@@ -91,6 +91,7 @@ print-as-read w a h =
   where
     made-ok : {X E : Type 0} {x y : X} → _≡_ {A = Result X E} (Ok x) (Ok y) → x ≡ y
     made-ok e = cc
+
     ap₃ : (t : ℕ → List ℕ → List ℕ → List ℕ) {n m : ℕ} {f g v u : List ℕ} → n ≡ m → f ≡ g → v ≡ u → t n f v ≡ t m g u
     ap₃ t p q r = λ i. t (p i) (q i) (r i)
 
