@@ -15,7 +15,6 @@ use windows::WindowsKind;
 ghost use Rattle.amounts.specs.Judging.{judged, judged-frames, judged-windows};
 ghost use Rattle.amounts.specs.Reading.{written, after-three};
 ghost use Rattle.notation.specs.Left.{left};
-ghost use Rattle.std.specs.declared.option.Option.the-variants.{Some};
 ghost use mathlib.Core.Path.{_≡_};
 
 // A count, and for frames and for windows a run or none; nothing is judged yet.
@@ -28,7 +27,7 @@ pub struct Written {
 
 // The next three pieces, read as a count, frames and windows; all three are taken.
 pub fn next_written(source: &mut Pieces) -> Option<Written>
-    ensures value { λ r. ⌜ r ≡ written (λ w _. Some w) (left (now (source .entry))) ⌝ }
+    ensures value { λ r. ⌜ r ≡ written (left (now (source .entry))) ⌝ }
     ensures rest { λ _. ⌜ left (now (source .exit)) ≡ after-three (left (now (source .entry))) ⌝ }
 {
     let count = next_number(source);

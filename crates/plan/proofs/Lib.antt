@@ -1,6 +1,5 @@
 mod Balance
 mod Engine
 mod Shared
-mod Stages
 mod Texts
 mod Visible

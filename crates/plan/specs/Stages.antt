@@ -1,11 +1,11 @@
 -- A line of a plan: `NAME COUNT FRAMES GREEN`, divided by single spaces. Assumes nothing.
 use mathlib.Core.List.{List}
 use Prim.Native.Nat.{ℕ}
-use Rattle.std.specs.Options.{mapped}
 use Rattle.std.specs.declared.option.Option.{Option}
 use Rattle.notation.specs.Cut.{pieces}
-use Rattle.notation.specs.Forms.{next, end}
-use Rattle.amounts.specs.Reading.{written}
+use Rattle.notation.specs.Forms.{go-on, end}
+use Rattle.notation.specs.Left.{first-read, others}
+use Rattle.amounts.specs.Reading.{written, after-three}
 use Rattle.amounts.specs.declared.written.Written.{Written}
 use Rattle.plan.specs.Names.{name}
 use Rattle.plan.specs.declared.stage.Stage.{Stage}
@@ -15,9 +15,14 @@ pub record Named : Type 0 where
   pub called : List ℕ
   pub takes : Written
 
+-- a name, an amount and nothing more
+abbrev pub stage-fields : List (List ℕ) → Option Named
+stage-fields ps =
+    go-on (first-read name ps) (λ n. go-on (written (others ps)) (λ w. end (record { called = n; takes = w }) (after-three (others ps))))
+
 -- the stage that a line says, if it says one
 abbrev pub stage : List ℕ → Option Named
-stage bs = next name (λ n. written (λ w. end (record { called = n; takes = w }))) (pieces 32 bs)
+stage bs = stage-fields (pieces 32 bs)
 
 -- what is read of a line
 abbrev pub as-named : Stage → Named

@@ -3,7 +3,8 @@ use crate::names::read_name;
 use amounts::Written;
 use amounts::next_written;
 use notation::Pieces;
-ghost use Rattle.plan.specs.Stages.{as-named, stage};
+ghost use Rattle.notation.specs.Left.{left};
+ghost use Rattle.plan.specs.Stages.{as-named, stage-fields, stage};
 ghost use Rattle.std.specs.Options.{mapped};
 ghost use mathlib.Core.Path.{_≡_};
 
@@ -14,12 +15,18 @@ pub struct Stage<'a> {
     pub takes: Written,
 }
 
-// The stage that a line says: a name, a count, frames and green.
-pub fn read_stage(line: &[u8]) -> Option<Stage<'_>>
-    ensures { λ r. ⌜ mapped as-named r ≡ stage (now (line .entry)) ⌝ }
+// A name, an amount and nothing more.
+fn read_fields(mut fields: Pieces<'_>) -> Option<Stage<'_>>
+    ensures { λ r. ⌜ mapped as-named r ≡ stage-fields (left (fields .entry)) ⌝ }
 {
-    let mut fields = Pieces::new(line, b' ');
     let name = read_name(fields.next_piece()?)?;
     let takes = next_written(&mut fields)?;
     fields.end_with(Stage { name, takes })
+}
+
+// The stage that a line says: a name, a count, frames and green, divided by single spaces.
+pub fn read_stage(line: &[u8]) -> Option<Stage<'_>>
+    ensures { λ r. ⌜ mapped as-named r ≡ stage (now (line .entry)) ⌝ }
+{
+    read_fields(Pieces::new(line, b' '))
 }
