@@ -1,7 +1,7 @@
 -- Every other number makes as many runs as there are such numbers.
 use mathlib.Core.Path.{_≡_, refl, sym, ap, _∙_}
-use mathlib.Core.List.{List, [], _∷_, map}
-use Prim.Native.Nat.{ℕ, zero, suc, _+_, _-_, _*_, _%_}
+use mathlib.Core.List.{_∷_, map}
+use Prim.Native.Nat.{ℕ, zero, suc, _-_, _*_, _%_}
 use native.Mathlib.Numerals.{add-one}
 use native.Mathlib.Omega.{arith}
 use Rattle.std.specs.Iters.{counting}

@@ -1,12 +1,11 @@
 -- Worked examples: amounts that make another, and amounts that make nothing.
 use mathlib.Core.Path.{_≡_}
-use mathlib.Core.List.{[], _∷_, _++_, map}
-use Prim.Native.Nat.{ℕ, suc, _+_, _*_, _%_, _-_}
+use mathlib.Core.List.{[], _∷_, map}
+use Prim.Native.Nat.{ℕ, suc, _*_, _%_, _-_}
 use lib.ListN.{length, replicate}
 use Rattle.std.specs.Iters.{counting}
 use Rattle.std.specs.declared.result.Result.the-variants.{Ok}
 use Rattle.count.specs.Counts.{count-of, make-count, Sums}
-use Rattle.count.specs.declared.count.Count.{Count}
 use Rattle.sets.specs.Runs.{run, blank, within}
 use Rattle.windows.specs.WindowSets.{windows-of, make-windows, window-runs, Unites}
 use Rattle.windows.specs.declared.windows.Windows.{Windows}

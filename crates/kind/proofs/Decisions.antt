@@ -1,8 +1,8 @@
 -- Facts that depend on a test, from the two ways of the test.
-use mathlib.Core.Path.{_≡_, refl, sym, subst, _∙_}
+use mathlib.Core.Path.{_≡_, refl}
 use mathlib.Core.Bool.{Bool, true, false, cond, Bool·beq}
 use mathlib.Core.Logic.{⊎-elim}
-use Prim.Native.Nat.{ℕ, _+_, _≤_, _<_}
+use Prim.Native.Nat.{ℕ, _≤_}
 use native.Mathlib.Omega.{arith}
 use Rattle.std.proofs.shelf.Tests.{true≢false, false≢true, cases-eq}
 use Rattle.std.specs.Orderings.{Decides, When}
@@ -33,20 +33,6 @@ agree true true d k = refl
 agree true false d k = absurd (false≢true (k .1 (d .0 refl)))
 agree false true d k = absurd (false≢true (d .1 (k .0 refl)))
 agree false false d k = refl
-
--- a test of all numbers below i, and one more
-module _ (P : ℕ → Type 0) (i : ℕ) where
-  abbrev Below : ℕ → Type 0
-  Below n = (k : ℕ) → k < n → P k
-
-  pub one-more : {t u : Bool} → u ≡ t → Decides t (Below i) → P i → Decides u (Below (i + 1))
-  one-more {t} {u} same d p = (
-    λ e k l. ⊎-elim (λ (eq : k ≡ i). subst P (sym eq) p) (λ (ne : k ≡ i → ⊥). d .0 (sym same ∙ e) k (omega (arith, ne))) (cases-eq k i),
-    λ h. same ∙ d .1 (λ k l. h k (omega arith)),
-  )
-
-  pub one-fails : {u : Bool} → u ≡ false → (P i → ⊥) → Decides u (Below (i + 1))
-  one-fails {u} off n = (λ e. absurd (false≢true (sym off ∙ e)), λ h. absurd (n (h i (omega arith))))
 
 -- a digit that a test tells
 pub digit-is : (b : Bool) (v : ℕ) → v ≤ 1 → Decides b (v ≡ 1) → v ≡ cond b 1 0

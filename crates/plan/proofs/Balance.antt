@@ -1,5 +1,5 @@
 -- What is held after a plan is the join of the stages that were added.
-use mathlib.Core.Path.{_≡_, refl, sym, subst}
+use mathlib.Core.Path.{_≡_, refl}
 use mathlib.Core.Bool.{Bool, true, false, cond}
 use mathlib.Core.List.{List, [], _∷_, _++_}
 use Prim.Native.Nat.{ℕ}
@@ -13,7 +13,7 @@ use Rattle.amounts.specs.Judging.{Engine, judged}
 use Rattle.plan.specs.Accounts.{Makes, Accounts, added, added-amount, all-added, held-at-end}
 use Rattle.plan.specs.Reports.{held-then, held-line}
 use Rattle.plan.specs.Stages.{Named, stage}
-use Rattle.plan.specs.Verdicts.{engine-answers, held-after}
+use Rattle.plan.specs.Verdicts.{engine-answers}
 use Rattle.plan.proofs.Engine.{engine-joins, full-leaves}
 
 -- the rest joins on from what is held after a line

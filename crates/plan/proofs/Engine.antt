@@ -1,18 +1,18 @@
 -- Joins and remainders of the engine's bundle are what its sides make.
-use mathlib.Core.Path.{_≡_, sym, subst, _∙_}
-use mathlib.Core.Bool.{true, cond}
-use Prim.Native.Nat.{ℕ, _+_, _-_, _≤_, _<_}
+use mathlib.Core.Path.{_≡_, sym, subst}
+use mathlib.Core.Bool.{true}
+use Prim.Native.Nat.{ℕ, _-_}
 use native.Mathlib.Omega.{arith}
 use Rattle.std.proofs.shelf.Tests.{and-parts, and-from, cond-true, leb-true, le-leb}
 use Rattle.std.proofs.shelf.Ways.{tells, when-true}
 use Rattle.kind.specs.Algebra.{Answers, GivesJoin, GivesRemainder}
-use Rattle.count.specs.Counts.{count-of, Sums, count-answers}
+use Rattle.count.specs.Counts.{Sums, count-answers}
 use Rattle.count.specs.Top.{top}
 use Rattle.count.proofs.Same.{within-top-in}
-use Rattle.frames.specs.FrameSets.{frames-of, frames-answers, Unites as FramesUnite}
+use Rattle.frames.specs.FrameSets.{frames-answers, Unites as FramesUnite}
 use Rattle.frames.specs.declared.frames.Frames.{Frames}
 use Rattle.frames.proofs.FrameFacts as frame-facts
-use Rattle.windows.specs.WindowSets.{windows-of, windows-answers, Unites as WindowsUnite}
+use Rattle.windows.specs.WindowSets.{windows-answers, Unites as WindowsUnite}
 use Rattle.windows.specs.declared.windows.Windows.{Windows}
 use Rattle.windows.proofs.WindowFacts as window-facts
 use Rattle.kinds.specs.Bundles.{BothMake, bundle-answers}

@@ -1,9 +1,8 @@
 -- Whether a stage fits what a junction holds, and if not, what is in its way. Assumes nothing.
 use mathlib.Core.Path.{_≡_}
-use mathlib.Core.Bool.{Bool, true, cond, _&&_}
+use mathlib.Core.Bool.{true, cond, _&&_}
 use Prim.Native.Nat.{ℕ, zero, suc, _+_, _<_}
 use lib.Dec.{eqb}
-use Rattle.std.specs.Orderings.{Decides}
 use Rattle.count.specs.Counts.{count-answers}
 use Rattle.count.specs.Top.{top}
 use Rattle.frames.specs.FrameSets.{frame, frames-answers}

@@ -25,7 +25,7 @@ use windows::WindowsKind;
 ghost use Rattle.notation.specs.Cut.{lines};
 ghost use Rattle.plan.specs.Accounts.{Accounts};
 ghost use Rattle.plan.specs.Reports.{full-cycle, unread-text, refused-text, judged-text, left-over, held-text, left-text, end-text, amount-line, held-then, line-text, held-line, plan-report};
-ghost use Rattle.plan.specs.Stages.{as-named, stage};
+ghost use Rattle.plan.specs.Stages.{stage};
 ghost use Rattle.plan.specs.Verdicts.{engine-answers};
 ghost use Rattle.amounts.specs.Judging.{judged};
 ghost use Rattle.std.specs.Of.String.{string-bytes};

@@ -5,7 +5,7 @@ use mathlib.Core.Logic.{⊎-elim}
 use Prim.Native.Nat.{ℕ, _+_, _-_, _≤_, _<_}
 use native.Mathlib.Omega.{arith}
 use Rattle.std.specs.Orderings.{Decides}
-use Rattle.std.proofs.shelf.Tests.{cond-true, cond-false, cases-lt, false≢true}
+use Rattle.std.proofs.shelf.Tests.{cond-true, cases-lt, false≢true}
 use Rattle.sets.specs.Members.{SameMembers, Has, OneOfTwo, vacant, apart, covers, union, without}
 use Rattle.kind.proofs.Decisions.{not-so, agree}
 use Rattle.sets.proofs.Unions.{Sets, all-leb, tells-empty}
@@ -48,16 +48,10 @@ module _ {A : Type 0} {n : ℕ} {at : A → ℕ → ℕ} {of : (ℕ → ℕ) →
       let f : ℕ → ℕ = λ k. at x k + at y k in
       same r _ (λ k h. omega (arith, m k h, made f k h, all-leb n f (λ _. 1) .0 e k h)) ∙ sym (cond-true _ _ _ e)
 
-  pub joins-none : (x y : A) → apart n at x y ≡ false → of (λ _. 0) ≡ union n at of x y
-  joins-none x y e = sym (cond-false _ _ _ e)
-
   pub leaves : (z x r : A) → covers n at z x ≡ true → OneOfTwo n at z x r → r ≡ without n at of z x
   leaves z x r e m =
       let f : ℕ → ℕ = λ k. at z k - at x k in
       same r _ (λ k h. omega (arith, m k h, made f k h, one z k, all-leb n (at x) (at z) .0 e k h)) ∙ sym (cond-true _ _ _ e)
-
-  pub leaves-none : (z x : A) → covers n at z x ≡ false → of (λ _. 0) ≡ without n at of z x
-  leaves-none z x e = sym (cond-false _ _ _ e)
 
   -- a number in both, found or not
   pub apart-from : (x y : A) (r : Bool) → Decides r ((k : ℕ) × (k < n) × (at x k ≡ 1) × (at y k ≡ 1)) → not r ≡ apart n at x y

@@ -1,6 +1,6 @@
 -- Runs place by place: the rules of their order, and the numbers they cover.
-use mathlib.Core.Path.{_≡_, refl, sym, ap, subst, _∙_}
-use mathlib.Core.Bool.{true, false, _&&_}
+use mathlib.Core.Path.{_≡_, refl, sym, subst, _∙_}
+use mathlib.Core.Bool.{true, false}
 use mathlib.Core.List.{List, [], _∷_}
 use mathlib.Core.Logic.{⊎-elim}
 use Prim.Native.Nat.{ℕ, zero, suc, _≤_, _<_, max}
@@ -8,7 +8,7 @@ use native.Mathlib.Omega.{arith}
 use lib.Dec.{eqb, leb, ltb}
 use lib.ListN.{length}
 use Rattle.std.proofs.shelf.Lists.{ext-getD}
-use Rattle.std.proofs.shelf.Tests.{and-parts, and-from, cases-bool, cases-eq, cases-lt, cond-true, cond-false, eqb-true, eq-eqb, ne-eqb, leb-true, le-leb, ltb-true, lt-ltb}
+use Rattle.std.proofs.shelf.Tests.{and-parts, and-from, cases-bool, cases-eq, cases-lt, cond-true, cond-false, eqb-true, eq-eqb, leb-true, le-leb, ltb-true, lt-ltb}
 use Rattle.sets.specs.Ends.{place}
 use Rattle.sets.specs.Runs.{blank, is-blank, within, covered, all-blank, ordered, tidy}
 use Rattle.sets.specs.declared.run.Run.{Run}

@@ -1,6 +1,6 @@
 -- The runs of a choice of numbers: they are in order, few, and cover just those numbers.
 use mathlib.Core.Path.{_≡_, refl, sym, ap, subst, _∙_}
-use mathlib.Core.Bool.{Bool, true, false, cond}
+use mathlib.Core.Bool.{true, false}
 use mathlib.Core.List.{List, [], _∷_, _++_}
 use mathlib.Core.Logic.{⊎-elim}
 use Prim.Native.Nat.{ℕ, zero, suc, _+_, _-_, _*_, _≤_, _<_, min, max}
@@ -8,9 +8,8 @@ use native.Mathlib.Omega.{arith}
 use lib.Dec.{eqb}
 use lib.ListN.{length, replicate}
 use Rattle.std.proofs.shelf.Lists.{length-append, length-replicate}
-use Rattle.std.proofs.shelf.Tests.{and-from, cases-bool, cases-eq, cases-lt, cond-true, cond-false, eqb-true, eqb-false, eq-eqb, ne-eqb, le-leb, lt-ltb}
+use Rattle.std.proofs.shelf.Tests.{and-from, cases-bool, cases-eq, cond-true, cond-false, eqb-true, eqb-false, eq-eqb, ne-eqb, le-leb, lt-ltb}
 use Rattle.std.proofs.shelf.Ways.{tells}
-use Rattle.sets.specs.Ends.{place}
 use Rattle.sets.specs.Runs.{run, is-run, blank, is-blank, within, covered, all-blank, ordered, tidy, put-before, runs-from, runs-of, in-places}
 use Rattle.sets.specs.declared.run.Run.{Run}
 

@@ -1,15 +1,14 @@
 -- The laws of disjoint unions, for any sets of numbers below n.
 use mathlib.Core.Path.{_≡_, refl, sym, ap, subst, _∙_}
-use mathlib.Core.Bool.{Bool, true, false, not}
-use mathlib.Core.Logic.{⊎-elim}
-use Prim.Native.Nat.{ℕ, suc, _+_, _-_, _≤_, _<_, min}
+use mathlib.Core.Bool.{Bool, true}
+use Prim.Native.Nat.{ℕ, _+_, _-_, _≤_, _<_, min}
 use native.Mathlib.Omega.{arith}
 use lib.Dec.{leb}
-use Rattle.std.specs.Orderings.{Decides, When}
-use Rattle.std.proofs.shelf.Tests.{leb-true, le-leb, cond-true, cond-false, cases-lt, false≢true}
+use Rattle.std.specs.Orderings.{Decides}
+use Rattle.std.proofs.shelf.Tests.{leb-true, le-leb, cond-true, cond-false}
 use Rattle.std.proofs.shelf.Ways.{decides-below-and}
 use Rattle.kind.specs.Algebra.{Functional, Commutative, Associative, Neutral, Cancellative, Positive, TellsFit, GivesJoin, TellsPart, GivesRemainder, TellsEmpty}
-use Rattle.sets.specs.Members.{all-below, DisjointUnion, vacant, apart, covers, union, without, set-answers}
+use Rattle.sets.specs.Members.{all-below, DisjointUnion, apart, covers, set-answers}
 use Rattle.kind.proofs.Decisions.{pick}
 
 -- a test at each number decides what it tests of each

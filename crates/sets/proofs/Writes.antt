@@ -4,7 +4,6 @@ use mathlib.Core.List.{List}
 use mathlib.Core.Logic.{_⊎_, inl, inr, ⊎-elim}
 use Prim.Native.Nat.{ℕ, _/_, _%_, _≤_, _<_}
 use native.Mathlib.Omega.{arith}
-use lib.Dec.{eqb}
 use lib.ListN.{length, set, replicate}
 use Rattle.std.proofs.shelf.Lists.{getD-past, getD-replicate, length-replicate, getD-set-same, getD-set-other}
 use Rattle.std.proofs.shelf.Tests.{cond-true, cond-false, cases-lt, cases-eq, eq-eqb, ne-eqb}

@@ -13,7 +13,7 @@ use Rattle.sets.proofs.Unions.{all-decides}
 use Rattle.windows.specs.WindowSets.{window, Unites}
 use Rattle.windows.specs.declared.windows.Windows.{Windows}
 use Rattle.windows.proofs.WindowFacts.{one, made, runs-made}
-use Rattle.examples.specs.Examples.{Made, CountsAdd, RunsUnite, EvensAndOdds, seconds, evens, odds}
+use Rattle.examples.specs.Examples.{Made, CountsAdd, RunsUnite, EvensAndOdds, seconds}
 use Rattle.examples.proofs.Alternating.{alternate}
 use Rattle.examples.proofs.examples_hold.Needs as need
 

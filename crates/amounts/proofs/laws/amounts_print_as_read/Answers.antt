@@ -27,10 +27,9 @@ use Rattle.windows.specs.declared.windows.Windows.{Windows}
 use Rattle.windows.proofs.WindowFacts as window-facts
 use Rattle.notation.specs.Texts.{runs-text, part-text}
 use Rattle.notation.specs.declared.spans.Span.{Span}
-use Rattle.amounts.specs.Judging.{Engine, and-then, judged, judged-frames, judged-windows}
+use Rattle.amounts.specs.Judging.{and-then, judged-frames, judged-windows}
 use Rattle.amounts.specs.Laws.{AmountsPrintAsRead}
 use Rattle.amounts.specs.Showing.{amount-text}
-use Rattle.amounts.specs.declared.written.Written.{Written}
 use Rattle.amounts.proofs.laws.amounts_print_as_read.Needs as need
 
 -- what is made of a value that a test lets pass

@@ -3,7 +3,7 @@ use mathlib.Core.Logic.{_⊎_, ⊎-elim}
 use mathlib.Core.Path.{_≡_, refl, sym, _∙_}
 use Prim.Native.Nat.{ℕ, _+_, _≤_, _<_}
 use native.Mathlib.Omega.{arith}
-use Rattle.std.proofs.shelf.Tests.{true≢false, false≢true, and-parts, and-from, leb-false, cases-lt}
+use Rattle.std.proofs.shelf.Tests.{true≢false, and-parts, and-from, leb-false, cases-lt}
 use Rattle.count.specs.Counts.{count-answers}
 use Rattle.frames.specs.FrameSets.{frame, frames-answers}
 use Rattle.frames.proofs.FrameFacts as frame-facts
@@ -13,7 +13,6 @@ use Rattle.sets.proofs.Answering.{is-apart}
 use Rattle.sets.proofs.Unions.{Sets}
 use Rattle.sets.specs.Members.{apart}
 use Rattle.amounts.specs.Judging.{Engine}
-use Rattle.plan.specs.Accounts.{VerdictsAreRight}
 use Rattle.plan.specs.Verdicts.{first-shared, Right}
 use Rattle.plan.specs.declared.junction.Verdict.the-variants.{Added, TooManyVehicles, FrameHeld, SecondHeld}
 use Rattle.plan.proofs.Shared.{shared-found}

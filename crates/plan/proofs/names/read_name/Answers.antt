@@ -1,15 +1,13 @@
-use mathlib.Core.Bool.{true, _&&_}
+use mathlib.Core.Bool.{true}
 use mathlib.Core.Path.{_≡_, sym, ap, _∙_}
-use Prim.Native.Nat.{_≤_}
 use native.Mathlib.Omega.{arith}
 use borrow.Author.Tests.{false-eqb}
-use lib.Dec.{leb}
 use lib.ListN.{length}
 use denote.Ref.{now}
 use Rattle.std.proofs.shelf.Tests.{and-from, le-leb}
 use Rattle.std.proofs.shelf.Text.{utf8-from-ascii}
 use Rattle.std.specs.Options.{mapped, whenTrue}
-use Rattle.plan.specs.Names.{all-visible, is-name, name}
+use Rattle.plan.specs.Names.{is-name}
 use Rattle.plan.proofs.Visible.{visible-next, visible-stops, visible-end, visible-ascii, read-text}
 use Rattle.plan.proofs.names.read_name.Needs as need
 

@@ -1,4 +1,3 @@
-use Rattle.sets.proofs.Mixing.{mixed-none}
 use Rattle.sets.proofs.Covering.{same-runs}
 use Rattle.sets.proofs.Places.{tidy-places}
 use Rattle.sets.proofs.Scans.{places-keep, places-cover}

@@ -1,6 +1,6 @@
-use mathlib.Core.Path.{_≡_, sym, _∙_}
+use mathlib.Core.Path.{sym, _∙_}
 use Prim.Native.Nat.{_/_, _%_, _^_}
-use lib.Bits.{bitAnd, and-mask}
+use lib.Bits.{and-mask}
 use lib.ListN.{getD}
 use Rattle.std.proofs.shelf.Tests.{eqb-true, eq-eqb}
 use Rattle.sets.specs.Bytes.{bit-of}

@@ -1,8 +1,8 @@
 use mathlib.Core.List.{[], _∷_, _++_}
-use mathlib.Core.Path.{_≡_, ap, ap₂, _∙_}
-use Prim.Native.Nat.{_<_, _≤_}
+use mathlib.Core.Path.{ap₂, _∙_}
+use Prim.Native.Nat.{_<_}
 use native.Mathlib.Omega.{arith}
-use lib.ListN.{length, take, set}
+use lib.ListN.{length, set}
 use lib.Seq.{take-set-le}
 use Rattle.std.proofs.shelf.Lists.{take-more, length-take, length-set, getD-set-same}
 use Rattle.frames.proofs.runs.FrameRuns.push.Needs as need

@@ -1,5 +1,4 @@
 use mathlib.Core.List.{List, _++_}
-use mathlib.Core.Path.{_≡_}
 use Prim.Native.Nat.{ℕ}
 use lib.Chars.{codes}
 use Rattle.std.proofs.Writes.{put-is}

@@ -1,4 +1,3 @@
-use mathlib.Core.Path.{_≡_}
 use Prim.Native.Nat.{_+_, _-_, _*_}
 use Rattle.windows.specs.Sizes.{second-count, window-places}
 use Rattle.sets.specs.Ends.{end-of}

@@ -1,4 +1,3 @@
-use Prim.Native.Nat.{_≤_, _<_}
 use native.Mathlib.Omega.{arith}
 use Rattle.windows.specs.Sizes.{second-count, window-places}
 use Rattle.sets.proofs.Covering.{end-is, end-past, end-top}

@@ -1,11 +1,10 @@
-use mathlib.Core.List.{List, [], _∷_}
-use mathlib.Core.Path.{_≡_, refl, sym, ap, _∙_}
+use mathlib.Core.List.{[], _∷_}
+use mathlib.Core.Path.{_≡_, sym, ap, _∙_}
 use Prim.Native.Nat.{ℕ, _<_}
 use native.Mathlib.Omega.{arith}
 use Rattle.std.proofs.shelf.Tests.{cond-true}
 use Rattle.std.specs.declared.result.Result.the-variants.{Ok}
 use Rattle.sets.specs.Runs.{run, within, covered}
-use Rattle.sets.specs.declared.run.Run.{Run}
 use Rattle.sets.proofs.Answering.{told}
 use Rattle.sets.proofs.Scans.{within-le, is-run-when, runs-ordered, runs-covered}
 use Rattle.windows.proofs.WindowFacts.{window-sets}

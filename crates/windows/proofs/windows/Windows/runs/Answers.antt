@@ -1,4 +1,4 @@
-use mathlib.Core.Path.{_≡_, sym, ap, _∙_}
+use mathlib.Core.Path.{_≡_, ap, _∙_}
 use Prim.Native.Nat.{ℕ, _-_, _≤_, _<_}
 use native.Mathlib.Omega.{arith}
 use borrow.Author.Count.{below-more}
@@ -9,7 +9,7 @@ use Rattle.sets.proofs.Answering.{told}
 use Rattle.sets.proofs.Scans.{scan-runs}
 use Rattle.sets.proofs.Used.{Used, used-runs}
 use Rattle.windows.specs.Sizes.{second-count, window-places}
-use Rattle.windows.specs.WindowSets.{window, windows-of, window-runs}
+use Rattle.windows.specs.WindowSets.{window, window-runs}
 use Rattle.windows.specs.declared.windows.Windows.{Windows}
 use Rattle.windows.proofs.WindowFacts.{window-sets, tidy-of, one}
 use Rattle.windows.proofs.windows.Windows.runs.Needs as need
