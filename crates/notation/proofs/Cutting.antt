@@ -14,7 +14,7 @@ use Rattle.notation.specs.Cut.{pieces, on-first}
 abbrev pub Unmarked : ℕ → List ℕ → ℕ → Type 0
 Unmarked mark bs n = (k : ℕ) → k < n → getD bs k 0 ≡ mark → ⊥
 
--- `cut-first`, as an induction has it
+-- the first mark stands at i, with `suc i` for `i + 1`
 cut-at : (mark : ℕ) (bs : List ℕ) (i : ℕ)
     → i < length bs → Unmarked mark bs i → getD bs i 0 ≡ mark → pieces mark bs ≡ take i bs ∷ pieces mark (drop (suc i) bs)
 cut-at mark [] i lt un is = absurd (omega arith)

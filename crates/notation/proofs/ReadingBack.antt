@@ -25,7 +25,7 @@ use Rattle.notation.specs.Spans.{span}
 use Rattle.notation.specs.Texts.{span-text}
 use Rattle.notation.specs.declared.spans.Span.{Span}
 
--- a number
+-- a number is read as itself
 pub number-again : NumbersReadBack
 number-again n small =
     let wide : n < 2 ^ 64 = omega arith in
@@ -39,7 +39,7 @@ lacks-decimal mark n other small k lt e =
     let wide : n < 2 ^ 64 = omega arith in
     not-in-digits own (decimal n) mark (digits-decimal own n wide) other k lt e
 
--- as a dot
+-- a number in decimal lacks the dot
 dotless : (n : ℕ) → Small n → Lacks 46 (decimal n)
 dotless n small = lacks-decimal 46 n (λ digit. omega arith) small
 
@@ -49,7 +49,7 @@ span-pieces s small =
     cuts-one-way 46 (decimal (s .from)) ([] ∷ decimal (s .to) ∷ [])
     (dotless (s .from) (small .0), (lacks-nil 46, (dotless (s .to) (small .1), tt)))
 
--- a span
+-- a span is read as itself
 pub span-again : (s : Span) → SmallPart (Some s) → span (span-text s) ≡ Some s
 span-again s small = rw (span-pieces s small, number-again (s .from) (small .0), number-again (s .to) (small .1))
 
@@ -61,7 +61,7 @@ apart xs ys differ = ⊎-elim (λ e. absurd (differ (sameBytes-decides xs ys .0 
 no-dash : (s : Span) → span-text s ≡ codes "-" → ⊥
 no-dash s e = omega (arith, ap length e, length-append (decimal (s .from)) (46 ∷ 46 ∷ decimal (s .to)))
 
--- a span or none
+-- a span or none is read as itself
 pub part-again : SpansReadBack
 part-again None small = refl
 part-again (Some s) small = rw (apart (span-text s) (codes "-") (no-dash s), span-again s small)

@@ -47,7 +47,7 @@ rejoin : (mark : ℕ) (bs : List ℕ) → rejoined mark (pieces mark bs) ≡ bs
 rejoin mark [] = refl
 rejoin mark (b ∷ bs) = rejoin-step mark b bs (pieces mark bs) (eqb b mark) refl (some-piece mark bs) (rejoin mark bs)
 
--- both at once
+-- the pieces lack the mark and give the bytes again
 pub cuts-exactly : CutsExactly
 cuts-exactly mark bs = (all-lack mark bs, rejoin mark bs)
 

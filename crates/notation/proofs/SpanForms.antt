@@ -1,5 +1,5 @@
 -- The steps by which `from..to` is read.
-use mathlib.Core.Path.{_≡_, refl, sym, _∙_}
+use mathlib.Core.Path.{_≡_, sym, _∙_}
 use mathlib.Core.List.{List, [], _∷_}
 use Prim.Native.Nat.{ℕ, _<_}
 use native.Mathlib.Omega.{arith}
@@ -23,7 +23,7 @@ module _ {from : ℕ} {ps qs : List (List ℕ)} (bs : List ℕ) (dots : ps ≡ p
   -- something stands between the dots
   pub span-refused : (b : List ℕ) (rs : List (List ℕ)) → qs ≡ b ∷ rs → 0 < length b → None ≡ span bs
   span-refused [] rs e some = absurd (omega arith)
-  span-refused (b ∷ bs′) rs e some = sym (after-from ∙ rw e refl)
+  span-refused (b ∷ bs′) rs e some = sym (after-from ∙ rw e)
 
   -- nothing stands between the dots, and `to` is read
   pub span-read : {ts : List (List ℕ)} {to : ℕ} {r : Option Span} (b : List ℕ) (rs : List (List ℕ))

@@ -1,4 +1,4 @@
-// An input cut into lines.
+// An input cut into lines: each ends at byte 10, and last bytes without it are a line too.
 use crate::pieces::first_piece;
 ghost use Prim.Native.Nat.{_≤_};
 ghost use Rattle.notation.specs.Cut.{lines};
