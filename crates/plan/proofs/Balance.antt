@@ -22,7 +22,7 @@ Rest held after new end = (rest : List Engine) → JoinsOn Makes after rest end 
 
 one-amount : (held a end : Engine) (fits : Bool) → engine-answers .fits held a ≡ fits
     → Rest held (cond fits (engine-answers .join held a) held) (cond fits (a ∷ []) []) end
-one-amount held a end true e rest j = (engine-answers .join held a, engine-joins held a e, j)
+one-amount held a end true e rest j = (engine-answers .join held a, (engine-joins held a e, j))
 one-amount held a end false e rest j = j
 
 one-judged : (held end : Engine) (r : Result Engine AmountRefusal) → Rest held (held-then held r) (added-amount held r) end

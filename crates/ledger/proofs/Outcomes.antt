@@ -1,0 +1,119 @@
+-- From what is due of a rule's refusals to what its call came to.
+use mathlib.Core.Path.{_≡_, refl, sym, ap, ap₂, subst, fun-ext, _∙_}
+use mathlib.Core.Bool.{Bool, true, false, not, _&&_}
+use mathlib.Core.List.{List, [], _∷_, map}
+use Prim.Native.Nat.{ℕ, _+_, _≤_, _<_}
+use native.Mathlib.Omega.{arith}
+use lib.Dec.{leb, eqb}
+use lib.ListN.{length, getD, set, replicate}
+use Rattle.std.specs.declared.result.Result.{Result}
+use Rattle.std.specs.declared.result.Result.the-variants.{Ok, Err}
+use Rattle.std.specs.declared.option.Option.{Option}
+use Rattle.std.specs.declared.option.Option.the-variants.{Some, None}
+use Rattle.std.proofs.shelf.Lists.{getD-read, getD-default}
+use Rattle.std.proofs.shelf.Tests.{leb-true, and-parts, not-false}
+use Rattle.kind.specs.Algebra.{Answers}
+use Rattle.tables.specs.declared.refusal.Refusal.{Refusal}
+use Rattle.tables.specs.declared.refusal.Refusal.the-variants.{TableLength}
+use Rattle.tables.specs.declared.refusal.Table.the-variants.{Banks, Grants}
+use Rattle.tables.specs.declared.rows.Bank.{Bank}
+use Rattle.tables.specs.declared.rows.Grant.{Grant}
+use Rattle.tables.specs.Tables.{State, chain, under, bank-at, free-bank, free-grant}
+use Rattle.tables.specs.Rows.{change-uses, each-at, how-many, held, handed-bank, handed-grant, above, freed-bank, freed-grant}
+use Rattle.rules.specs.Rules.{Outcome, first, refuse-if, misfit, refused, unless, buy-refusal, buys, back-refusal, backs, closing-refusal, hands-up, reclaim-refusal, reclaims, fresh}
+use Rattle.ledger.specs.Posts.{Meets, Places, marked}
+
+some-none : {X : Type 0} (x : X) → Some x ≡ None → ⊥
+some-none x e = let z : _≡_ {A = ℕ} 0 1 = cc in omega arith
+
+-- no refusal is due: neither the first, nor one of the others
+pub first-none : (x : Option Refusal) (xs : List (Option Refusal)) → first (x ∷ xs) ≡ None → (x ≡ None) × (first xs ≡ None)
+first-none None xs e = (refl, e)
+first-none (Some r) xs e = absurd (some-none r e)
+
+pub if-none : (b : Bool) (r : Refusal) → refuse-if b r ≡ None → b ≡ false
+if-none true r e = absurd (some-none r e)
+if-none false r e = refl
+
+pub states : {A : Type 0} {l m : ℕ} {bs cs : List (Bank A)} {gs hs : List (Grant A)} → l ≡ m → bs ≡ cs → gs ≡ hs
+    → _≡_ {A = State A} (record { last = l; banks = bs; grants = gs }) (record { last = m; banks = cs; grants = hs })
+states p q r = cc
+
+module _ {A : Type 0} (q : Answers A) where
+  pub refuses : (x : Option Refusal) (s : State A) (o : Outcome A) (r : Refusal) → Some r ≡ x → Meets (unless q x s o) (Err r) s
+  refuses x s o r e = subst (λ y. Meets (unless q y s o) (Err r) s) e (record { answered = refl; left = refl })
+
+  pub accepts : (x : Option Refusal) (s t : State A) (o : Outcome A) (r : Result ℕ Refusal) → None ≡ x → Meets o r t → Meets (unless q x s o) r t
+  accepts x s t o r e h = subst (λ y. Meets (unless q y s o) r t) e h
+
+  pub delivers : (x : Option Refusal) (s : State A) (o : Outcome A) (before place : A) → None ≡ x → Places o before place → Places (unless q x s o) before place
+  delivers x s o before place e h = subst (λ y. Places (unless q y s o) before place) e h
+
+  -- tables that fit have a bank 0, and few rows
+  pub fitted : (s : State A) → misfit q s ≡ None → (1 ≤ length (s .banks)) × (length (s .banks) ≤ 64) × (1 ≤ length (s .grants)) × (length (s .grants) ≤ 1024)
+  fitted s e =
+      let b = first-none _ _ e in
+      let g = first-none _ _ (b .1) in
+      let bs = and-parts _ _ (not-false _ (if-none _ _ (b .0))) in
+      let gs = and-parts _ _ (not-false _ (if-none _ _ (g .0))) in
+      (leb-true _ _ (bs .0), leb-true _ _ (bs .1), leb-true _ _ (gs .0), leb-true _ _ (gs .1))
+
+  -- a ledger is set up: what was written
+  pub set-up : (e : A) (s : State A) (none : A) (banks : List (Bank A)) (grants : List (Grant A)) → none ≡ q .empty
+      → banks ≡ replicate (length (s .banks)) (free-bank (q .empty)) → grants ≡ replicate (length (s .grants)) (free-grant (q .empty))
+      → record { last = 0; banks = set banks 0 (record { live = true; parent = 0; limit = e; used = none }); grants = grants } ≡ fresh q e (length (s .banks)) (length (s .grants))
+  set-up e s none banks grants n bs gs = states refl (ap₂ (λ (rows : List (Bank A)) (u : A). set rows 0 (record { live = true; parent = 0; limit = e; used = u })) bs n) gs
+
+  -- a grant is bought: the rows of its bank's chain, and what was written
+  pub bought : (s : State A) (b r : ℕ) (a : A) (rows : List ℕ) (banks : List (Bank A)) → None ≡ buy-refusal q s b r a → rows ≡ chain (q .empty) (s .banks) b
+      → banks ≡ change-uses q (λ u. q .join u a) rows (s .banks)
+      → Meets (buys q s b r a) (Ok (s .last + 1)) (record { last = s .last + 1; banks = banks; grants = set (s .grants) r (record { live = true; bank = b; serial = s .last + 1; amount = a }) })
+  bought s b r a rows banks due are bs =
+      accepts _ s _ _ _ due (record { answered = refl; left = states refl (bs ∙ ap (λ (rs : List ℕ). change-uses q (λ u. q .join u a) rs (s .banks)) are) refl })
+
+  -- a grant is given back: the grant as it was read, the rows of its chain, and what was written
+  pub backed : (s : State A) (r n : ℕ) (grant : Grant A) (rows : List ℕ) (banks : List (Bank A)) (free : Grant A) → None ≡ back-refusal q s r n
+      → r < length (s .grants) → grant ≡ getD (s .grants) r grant → rows ≡ chain (q .empty) (s .banks) (grant .bank)
+      → banks ≡ change-uses q (λ u. q .remainder u (grant .amount)) rows (s .banks) → free ≡ free-grant (q .empty)
+      → Meets (backs q s r n) (Ok 0) (record { last = s .last; banks = banks; grants = set (s .grants) r free })
+  backed s r n grant rows banks free due h is are b f =
+      let read = getD-read (s .grants) r grant h is (free-grant (q .empty)) in
+      let in-grant = ap (λ (g : Grant A). change-uses q (λ u. q .remainder u (g .amount)) (chain (q .empty) (s .banks) (g .bank)) (s .banks)) read in
+      let in-rows = ap (λ (rs : List ℕ). change-uses q (λ u. q .remainder u (grant .amount)) rs (s .banks)) are in
+      accepts _ s _ _ _ due (record { answered = refl; left = states refl (b ∙ in-rows ∙ in-grant) (ap (set (s .grants) r) f) })
+
+  -- a bank is handed up: the number of its parent as it was read, and what was written
+  pub handed : (s : State A) (d : ℕ) (e : Bank A) (n : ℕ) (banks : List (Bank A)) (grants : List (Grant A)) → None ≡ closing-refusal q s d → d < length (s .banks)
+      → let p = getD (s .banks) d e .parent in n ≡ how-many (held (eqb d)) (s .grants) → banks ≡ each-at (handed-bank q d p) 0 (s .banks) → grants ≡ map (handed-grant q d p) (s .grants)
+      → Meets (hands-up q s d) (Ok n) (record { last = s .last; banks = banks; grants = grants })
+  handed s d e n banks grants due within counts bs gs =
+      let parent : getD (s .banks) d e .parent ≡ bank-at (q .empty) (s .banks) d .parent = ap (λ (b : Bank A). b .parent) (getD-default (s .banks) d e (free-bank (q .empty)) within) in
+      accepts _ s _ _ _ due (record {
+        answered = ap Ok counts;
+        left = states refl (bs ∙ ap (λ (p : ℕ). each-at (handed-bank q d p) 0 (s .banks)) parent) (gs ∙ ap (λ (p : ℕ). map (handed-grant q d p) (s .grants)) parent);
+      })
+
+  -- a bank is reclaimed: its use as it was read, the rows above it and the marks of those under it, and what was written
+  module _ (s : State A) (d : ℕ) (e : Bank A) (due : None ≡ reclaim-refusal q s d) (within : d < length (s .banks)) where
+    used : getD (s .banks) d e .used ≡ bank-at (q .empty) (s .banks) d .used
+    used = ap (λ (b : Bank A). b .used) (getD-default (s .banks) d e (free-bank (q .empty)) within)
+
+    pub reclaimed : (gone : List Bool) (rows : List ℕ) (n : ℕ) (banks freed : List (Bank A)) (grants : List (Grant A))
+        → ((b : ℕ) → marked gone b ≡ under (q .empty) (s .banks) d b) → rows ≡ above (chain (q .empty) (s .banks) d)
+        → banks ≡ change-uses q (λ u. q .remainder u (getD (s .banks) d e .used)) rows (s .banks) → freed ≡ each-at (freed-bank q (marked gone)) 0 banks
+        → n ≡ how-many (held (marked gone)) (s .grants) → grants ≡ map (freed-grant q (marked gone)) (s .grants)
+        → Meets (reclaims q s d) (Ok n) (record { last = s .last; banks = freed; grants = grants })
+    reclaimed gone rows n banks freed grants marks above-it taken fs counts gs =
+        let under-d = under (q .empty) (s .banks) d in
+        let marks-are : marked gone ≡ under-d = fun-ext marks in
+        let in-rows = ap (λ (rs : List ℕ). change-uses q (λ u. q .remainder u (getD (s .banks) d e .used)) rs (s .banks)) above-it in
+        let in-used = ap (λ (a : A). change-uses q (λ u. q .remainder u a) (above (chain (q .empty) (s .banks) d)) (s .banks)) used in
+        accepts _ s _ _ _ due (record {
+          answered = ap Ok (counts ∙ ap (λ (f : ℕ → Bool). how-many (held f) (s .grants)) marks-are);
+          left =
+              states refl (fs ∙ ap (λ (f : ℕ → Bool). each-at (freed-bank q f) 0 banks) marks-are ∙ ap (each-at (freed-bank q under-d) 0) (taken ∙ in-rows ∙ in-used))
+              (gs ∙ ap (λ (f : ℕ → Bool). map (freed-grant q f) (s .grants)) marks-are);
+        })
+
+    pub delivered : (before : A) → Places (reclaims q s d) before (getD (s .banks) d e .used)
+    delivered before = delivers _ s _ _ _ due (record { holds = used })
