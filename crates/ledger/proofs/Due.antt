@@ -1,21 +1,20 @@
 -- The last refusals of open and of stock, once the first have passed.
 use mathlib.Core.Path.{_≡_, refl, sym, ap, _∙_}
-use mathlib.Core.Bool.{Bool, true, false, not}
+use mathlib.Core.Bool.{true, false}
 use mathlib.Core.List.{List, [], _∷_}
 use Prim.Native.Nat.{ℕ, _≤_, _<_}
 use native.Mathlib.Omega.{arith}
 use lib.Dec.{leb}
 use lib.ListN.{length, getD}
-use Rattle.std.specs.declared.option.Option.{Option}
 use Rattle.std.specs.declared.option.Option.the-variants.{Some, None}
 use Rattle.std.proofs.shelf.Lists.{getD-read}
 use Rattle.std.proofs.shelf.Tests.{lt-leb, le-leb}
 use Rattle.kind.specs.Algebra.{Answers}
 use Rattle.tables.specs.declared.rows.Bank.{Bank}
-use Rattle.tables.specs.declared.refusal.Refusal.the-variants.{NoSuchBank, BankFree, OutOfOrder, ChainFull, RowLive}
+use Rattle.tables.specs.declared.refusal.Refusal.the-variants.{ChainFull, RowLive}
 use Rattle.tables.specs.Tables.{State, is-none, bank-at, free-bank, chain, lost}
 use Rattle.rules.specs.Rules.{first, refuse-if, misfit, live-bank, open-refusal, stock-refusal}
-use Rattle.ledger.proofs.Outcomes.{fitted}
+use Rattle.rules.proofs.Fitted.{fitted}
 
 not-none : (xs : List ℕ) → (length xs ≡ 0 → ⊥) → is-none xs ≡ false
 not-none [] h = absurd (h refl)

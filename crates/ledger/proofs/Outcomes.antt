@@ -1,39 +1,23 @@
 -- From what is due of a rule's refusals to what its call came to.
-use mathlib.Core.Path.{_≡_, refl, sym, ap, ap₂, subst, fun-ext, _∙_}
-use mathlib.Core.Bool.{Bool, true, false, not, _&&_}
-use mathlib.Core.List.{List, [], _∷_, map}
-use Prim.Native.Nat.{ℕ, _+_, _≤_, _<_}
-use native.Mathlib.Omega.{arith}
-use lib.Dec.{leb, eqb}
+use mathlib.Core.Path.{_≡_, refl, ap, ap₂, subst, fun-ext, _∙_}
+use mathlib.Core.Bool.{Bool, true}
+use mathlib.Core.List.{List, map}
+use Prim.Native.Nat.{ℕ, _+_, _<_}
+use lib.Dec.{eqb}
 use lib.ListN.{length, getD, set, replicate}
 use Rattle.std.specs.declared.result.Result.{Result}
 use Rattle.std.specs.declared.result.Result.the-variants.{Ok, Err}
 use Rattle.std.specs.declared.option.Option.{Option}
 use Rattle.std.specs.declared.option.Option.the-variants.{Some, None}
 use Rattle.std.proofs.shelf.Lists.{getD-read, getD-default}
-use Rattle.std.proofs.shelf.Tests.{leb-true, and-parts, not-false}
 use Rattle.kind.specs.Algebra.{Answers}
 use Rattle.tables.specs.declared.refusal.Refusal.{Refusal}
-use Rattle.tables.specs.declared.refusal.Refusal.the-variants.{TableLength}
-use Rattle.tables.specs.declared.refusal.Table.the-variants.{Banks, Grants}
 use Rattle.tables.specs.declared.rows.Bank.{Bank}
 use Rattle.tables.specs.declared.rows.Grant.{Grant}
-use Rattle.tables.specs.Tables.{State, chain, under, bank-at, free-bank, free-grant}
+use Rattle.tables.specs.Tables.{State, chain, under, bank-at, grant-at, free-bank, free-grant}
 use Rattle.tables.specs.Rows.{change-uses, each-at, how-many, held, handed-bank, handed-grant, above, freed-bank, freed-grant}
-use Rattle.rules.specs.Rules.{Outcome, first, refuse-if, misfit, refused, unless, buy-refusal, buys, back-refusal, backs, closing-refusal, hands-up, reclaim-refusal, reclaims, fresh}
+use Rattle.rules.specs.Rules.{Outcome, unless, buy-refusal, buys, back-refusal, backs, closing-refusal, hands-up, reclaim-refusal, reclaims, fresh}
 use Rattle.ledger.specs.Posts.{Meets, Places, marked}
-
-some-none : {X : Type 0} (x : X) → Some x ≡ None → ⊥
-some-none x e = let z : _≡_ {A = ℕ} 0 1 = cc in omega arith
-
--- no refusal is due: neither the first, nor one of the others
-pub first-none : (x : Option Refusal) (xs : List (Option Refusal)) → first (x ∷ xs) ≡ None → (x ≡ None) × (first xs ≡ None)
-first-none None xs e = (refl, e)
-first-none (Some r) xs e = absurd (some-none r e)
-
-pub if-none : (b : Bool) (r : Refusal) → refuse-if b r ≡ None → b ≡ false
-if-none true r e = absurd (some-none r e)
-if-none false r e = refl
 
 pub states : {A : Type 0} {l m : ℕ} {bs cs : List (Bank A)} {gs hs : List (Grant A)} → l ≡ m → bs ≡ cs → gs ≡ hs
     → _≡_ {A = State A} (record { last = l; banks = bs; grants = gs }) (record { last = m; banks = cs; grants = hs })
@@ -48,15 +32,6 @@ module _ {A : Type 0} (q : Answers A) where
 
   pub delivers : (x : Option Refusal) (s : State A) (o : Outcome A) (before place : A) → None ≡ x → Places o before place → Places (unless q x s o) before place
   delivers x s o before place e h = subst (λ y. Places (unless q y s o) before place) e h
-
-  -- tables that fit have a bank 0, and few rows
-  pub fitted : (s : State A) → misfit q s ≡ None → (1 ≤ length (s .banks)) × (length (s .banks) ≤ 64) × (1 ≤ length (s .grants)) × (length (s .grants) ≤ 1024)
-  fitted s e =
-      let b = first-none _ _ e in
-      let g = first-none _ _ (b .1) in
-      let bs = and-parts _ _ (not-false _ (if-none _ _ (b .0))) in
-      let gs = and-parts _ _ (not-false _ (if-none _ _ (g .0))) in
-      (leb-true _ _ (bs .0), leb-true _ _ (bs .1), leb-true _ _ (gs .0), leb-true _ _ (gs .1))
 
   -- a ledger is set up: what was written
   pub set-up : (e : A) (s : State A) (none : A) (banks : List (Bank A)) (grants : List (Grant A)) → none ≡ q .empty
@@ -73,12 +48,12 @@ module _ {A : Type 0} (q : Answers A) where
 
   -- a grant is given back: the grant as it was read, the rows of its chain, and what was written
   pub backed : (s : State A) (r n : ℕ) (grant : Grant A) (rows : List ℕ) (banks : List (Bank A)) (free : Grant A) → None ≡ back-refusal q s r n
-      → r < length (s .grants) → grant ≡ getD (s .grants) r grant → rows ≡ chain (q .empty) (s .banks) (grant .bank)
+      → r < length (s .grants) → grant ≡ getD (s .grants) r grant → rows ≡ chain (q .empty) (s .banks) (grant-at (q .empty) (s .grants) r .bank)
       → banks ≡ change-uses q (λ u. q .remainder u (grant .amount)) rows (s .banks) → free ≡ free-grant (q .empty)
       → Meets (backs q s r n) (Ok 0) (record { last = s .last; banks = banks; grants = set (s .grants) r free })
   backed s r n grant rows banks free due h is are b f =
       let read = getD-read (s .grants) r grant h is (free-grant (q .empty)) in
-      let in-grant = ap (λ (g : Grant A). change-uses q (λ u. q .remainder u (g .amount)) (chain (q .empty) (s .banks) (g .bank)) (s .banks)) read in
+      let in-grant = ap (λ (g : Grant A). change-uses q (λ u. q .remainder u (g .amount)) (chain (q .empty) (s .banks) (grant-at (q .empty) (s .grants) r .bank)) (s .banks)) read in
       let in-rows = ap (λ (rs : List ℕ). change-uses q (λ u. q .remainder u (grant .amount)) rs (s .banks)) are in
       accepts _ s _ _ _ due (record { answered = refl; left = states refl (b ∙ in-rows ∙ in-grant) (ap (set (s .grants) r) f) })
 

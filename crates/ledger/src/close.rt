@@ -1,13 +1,12 @@
 // The calls that close a bank: reclaim, and hand up.
-use crate::chains::chain_of;
+use crate::checks::check_closing;
+use crate::checks::check_reclaim;
 use crate::passes::free_banks;
 use crate::passes::free_grants;
 use crate::passes::hand_up_banks;
 use crate::passes::hand_up_grants;
 use crate::passes::take_from_uses;
 use crate::passes::under_of;
-use crate::refusals::closing_refusal;
-use crate::refusals::reclaim_refusal;
 use kind::Kind;
 use tables::Bank;
 use tables::Grant;
@@ -27,11 +26,8 @@ pub fn reclaim<K: Kind>(
     ensures meets { λ r. ⌜ Meets (reclaims (K·Kind .answers) (state (head .entry) (banks .entry) (grants .entry)) bank) r (state (head .exit) (banks .exit) (grants .exit)) ⌝ }
     ensures places { λ _. ⌜ Places (reclaims (K·Kind .answers) (state (head .entry) (banks .entry) (grants .entry)) bank) (now (place .entry)) (now (place .exit)) ⌝ }
 {
-    if let Some(refusal) = reclaim_refusal(head, banks, grants, bank) {
-        return Err(refusal);
-    }
+    let chain = check_reclaim(head, banks, grants, bank)?;
     let used = banks[bank as usize].used;
-    let chain = chain_of(banks, bank);
     let gone = under_of(banks, bank);
     take_from_uses(banks, chain.rows_above(), &used);
     free_banks(banks, &gone);
@@ -49,9 +45,7 @@ pub fn hand_up<K: Kind>(
 ) -> Result<u32, Refusal>
     ensures { λ r. ⌜ Meets (hands-up (K·Kind .answers) (state (head .entry) (banks .entry) (grants .entry)) bank) r (state (head .exit) (banks .exit) (grants .exit)) ⌝ }
 {
-    if let Some(refusal) = closing_refusal(head, banks, grants, bank) {
-        return Err(refusal);
-    }
+    check_closing(head, banks, grants, bank)?;
     let parent = banks[bank as usize].parent;
     hand_up_banks(banks, bank, parent);
     let count = hand_up_grants(grants, bank, parent);

@@ -3,9 +3,9 @@
 // The caller keeps the head and the two tables and lends them to each call. A call answers, and leaves all of them, as its
 // rule says, whatever the tables hold.
 mod chains;
+mod checks;
 mod close;
 mod passes;
-mod refusals;
 mod setup;
 mod trade;
 

@@ -1,7 +1,7 @@
 // Set-up: a ledger begins.
+use crate::checks::check_lengths;
 use crate::passes::clear_banks;
 use crate::passes::clear_grants;
-use crate::refusals::misfit_of;
 use kind::Kind;
 use tables::Bank;
 use tables::Grant;
@@ -21,9 +21,7 @@ pub fn set_up<K: Kind>(
     ensures meets { λ r. ⌜ Meets (sets-up (K·Kind .answers) endowment (state (head .entry) (banks .entry) (grants .entry))) r (state (head .exit) (banks .exit) (grants .exit)) ⌝ }
     ensures books { λ r. ⌜ KeepsBooks (K·Kind .makes) (K·Kind .answers) endowment r (state (head .exit) (banks .exit) (grants .exit)) ⌝ }
 {
-    if let Some(refusal) = misfit_of(head, banks, grants) {
-        return Err(refusal);
-    }
+    check_lengths(head, banks, grants)?;
     clear_banks(banks);
     clear_grants(grants);
     banks[0] = Bank {

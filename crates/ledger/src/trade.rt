@@ -1,11 +1,10 @@
 // The calls of a branch's day: open, buy, give back, and ask for the stock.
-use crate::chains::chain_of;
+use crate::checks::check_back;
+use crate::checks::check_buy;
+use crate::checks::check_open;
+use crate::checks::check_stock;
 use crate::passes::join_uses;
 use crate::passes::take_from_uses;
-use crate::refusals::back_refusal;
-use crate::refusals::buy_refusal;
-use crate::refusals::open_refusal;
-use crate::refusals::stock_refusal;
 use kind::Kind;
 use tables::Bank;
 use tables::Grant;
@@ -25,9 +24,7 @@ pub fn open<K: Kind>(
 ) -> Result<u32, Refusal>
     ensures { λ r. ⌜ Meets (opens (K·Kind .answers) (state (head .entry) (banks .entry) (grants .entry)) parent child limit) r (state (head .exit) (banks .exit) (grants .exit)) ⌝ }
 {
-    if let Some(refusal) = open_refusal(head, banks, grants, parent, child) {
-        return Err(refusal);
-    }
+    check_open(head, banks, grants, parent, child)?;
     banks[child as usize] = Bank {
         live: true,
         parent,
@@ -48,10 +45,7 @@ pub fn buy<K: Kind>(
 ) -> Result<u32, Refusal>
     ensures { λ r. ⌜ Meets (buys (K·Kind .answers) (state (head .entry) (banks .entry) (grants .entry)) bank row amount) r (state (head .exit) (banks .exit) (grants .exit)) ⌝ }
 {
-    if let Some(refusal) = buy_refusal(head, banks, grants, bank, row, &amount) {
-        return Err(refusal);
-    }
-    let chain = chain_of(banks, bank);
+    let chain = check_buy(head, banks, grants, bank, row, &amount)?;
     join_uses(banks, chain.rows(), &amount);
     let serial = head.last_serial + 1;
     head.last_serial = serial;
@@ -74,12 +68,9 @@ pub fn give_back<K: Kind>(
 ) -> Result<u32, Refusal>
     ensures { λ r. ⌜ Meets (backs (K·Kind .answers) (state (head .entry) (banks .entry) (grants .entry)) row serial) r (state (head .exit) (banks .exit) (grants .exit)) ⌝ }
 {
-    if let Some(refusal) = back_refusal(head, banks, grants, row, serial) {
-        return Err(refusal);
-    }
+    let chain = check_back(head, banks, grants, row, serial)?;
     let at = row as usize;
     let grant = grants[at];
-    let chain = chain_of(banks, grant.bank);
     take_from_uses(banks, chain.rows(), &grant.amount);
     grants[at] = Grant::free();
     Ok(0)
@@ -95,9 +86,7 @@ pub fn stock<K: Kind>(
     ensures meets { λ r. ⌜ Meets (stocks (K·Kind .answers) (state (head .entry) (banks .entry) (grants .entry))) r (state (head .entry) (banks .entry) (grants .entry)) ⌝ }
     ensures places { λ _. ⌜ Places (stocks (K·Kind .answers) (state (head .entry) (banks .entry) (grants .entry))) (now (place .entry)) (now (place .exit)) ⌝ }
 {
-    if let Some(refusal) = stock_refusal(head, banks, grants) {
-        return Err(refusal);
-    }
+    check_stock(head, banks, grants)?;
     *place = banks[0].limit.remainder(&banks[0].used);
     Ok(0)
 }

@@ -13,7 +13,7 @@ use Rattle.std.proofs.shelf.Tests.{cases-eq, not-true, both-ways, and-parts, an
 use Rattle.std.proofs.shelf.Lists.{getD-set-same, getD-set-other}
 use Rattle.kind.specs.Algebra.{Answers, Part}
 use Rattle.tables.specs.declared.rows.Grant.{Grant}
-use Rattle.tables.specs.Tables.{State, among, free-grant, chain}
+use Rattle.tables.specs.Tables.{State, among, free-grant}
 use Rattle.tables.specs.Rows.{short-of, change-uses, nearest}
 use Rattle.rules.specs.Rules.{Outcome, give-back}
 use Rattle.rules.specs.Record.{Opened, Outstanding, Shown, accepted, kept, within, held-in, amounts, serials, named}

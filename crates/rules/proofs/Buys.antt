@@ -11,7 +11,7 @@ use Rattle.std.specs.declared.option.Option.the-variants.{Some, None}
 use Rattle.std.proofs.shelf.Tests.{cases-eq, not-false, both-ways, and-parts}
 use Rattle.std.proofs.shelf.Lists.{getD-set-same, getD-set-other, map-push}
 use Rattle.kind.specs.Algebra.{Answers, Part}
-use Rattle.tables.specs.Tables.{State, among, free-grant, chain}
+use Rattle.tables.specs.Tables.{State, among, free-grant}
 use Rattle.tables.specs.Rows.{over, change-uses, nearest}
 use Rattle.rules.specs.Rules.{buy, live-grant}
 use Rattle.rules.specs.Record.{Opened, Outstanding, Shown, accepted, within, held-in, amounts, serials}

@@ -1,20 +1,19 @@
 -- The law of lists: what holds after set-up, and after every step of any list of calls. Assumes nothing.
 use mathlib.Core.Path.{_≡_}
-use mathlib.Core.Bool.{Bool, true, false, not, cond, _&&_, _||_}
-use mathlib.Core.List.{List, [], _∷_, _++_, map}
-use Prim.Native.Nat.{ℕ, zero, suc, _<_}
-use lib.Dec.{eqb, T}
+use mathlib.Core.Bool.{true, false}
+use mathlib.Core.List.{List, [], _∷_}
+use Prim.Native.Nat.{ℕ, _<_}
 use Rattle.std.specs.declared.result.Result.{Result}
 use Rattle.std.specs.declared.result.Result.the-variants.{Ok, Err}
 use Rattle.std.specs.declared.option.Option.{Option}
-use Rattle.std.specs.declared.option.Option.the-variants.{Some, None}
+use Rattle.std.specs.declared.option.Option.the-variants.{Some}
 use Rattle.kind.specs.Algebra.{Answers, Part}
 use Rattle.kind.specs.Joins.{JoinsOn}
 use Rattle.tables.specs.declared.refusal.Refusal.{Refusal}
 use Rattle.tables.specs.declared.refusal.Refusal.the-variants.{OutOfOrder}
 use Rattle.tables.specs.Tables.{State, among}
-use Rattle.rules.specs.Rules.{Call, open-bank, buy, give-back, reclaim, hand-up, stock, Outcome, ask, fresh, stocks}
-use Rattle.rules.specs.Record.{Opened, Outstanding, Shown, Entry, line, within, held-in, amounts, named, shown, issued, ended, serials}
+use Rattle.rules.specs.Rules.{Call, open-bank, buy, give-back, reclaim, hand-up, stock, ask, stocks}
+use Rattle.rules.specs.Record.{Opened, Shown, Entry, within, held-in, amounts, named, shown, issued, ended, serials}
 
 -- each number stands in the list once
 abbrev pub Distinct : List ℕ → Type 0

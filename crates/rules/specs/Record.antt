@@ -1,6 +1,5 @@
 -- What a list of calls and answers shows: the open banks and the outstanding grants, read off the list and never off the tables. Assumes nothing.
-use mathlib.Core.Path.{_≡_}
-use mathlib.Core.Bool.{Bool, true, false, not, cond, _&&_, _||_}
+use mathlib.Core.Bool.{Bool, false, not, cond, _&&_, _||_}
 use mathlib.Core.List.{List, [], _∷_, _++_, map}
 use Prim.Native.Nat.{ℕ, zero, suc}
 use lib.Dec.{eqb}
@@ -9,7 +8,7 @@ use Rattle.std.specs.declared.result.Result.the-variants.{Ok, Err}
 use Rattle.std.specs.declared.option.Option.{Option}
 use Rattle.std.specs.declared.option.Option.the-variants.{Some, None}
 use Rattle.tables.specs.declared.refusal.Refusal.{Refusal}
-use Rattle.tables.specs.Tables.{among, under-it}
+use Rattle.tables.specs.Tables.{among}
 use Rattle.rules.specs.Rules.{Call, open-bank, buy, give-back, reclaim, hand-up, stock}
 
 -- an open bank

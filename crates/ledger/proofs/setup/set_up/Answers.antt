@@ -9,7 +9,7 @@ returns g c =
     let q = g .K·Kind .answers in
     let laws = g .K·Kind·met in
     let s = state (c .args .head) (c .args .banks) (c .args .grants) in
-    let due = c .in-rest .ensures tt in
+    let due = c .in-Continue-check-lengths .ensures tt in
     let left = set-up q (c .args .endowment) s _ _ _ (c .empty .ensures) (c .clear-banks .ensures) (c .clear-grants .ensures) in
     record {
       meets = accepts q _ s _ _ _ due (record { answered = refl; left = left });

@@ -1,4 +1,3 @@
-use Rattle.rules.proofs.Laws.{Laws}
 use Rattle.rules.proofs.Theorem.{books}
 use Rattle.rules.proofs.law.lists_keep_books.Needs as need
 

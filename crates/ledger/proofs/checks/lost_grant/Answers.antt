@@ -2,8 +2,8 @@ use mathlib.Core.Path.{sym, ap, _∙_}
 use Rattle.std.proofs.shelf.Tests.{and-from, and-left, and-right}
 use Rattle.tables.specs.Rows.{grant-lost}
 use Rattle.ledger.proofs.Scans.{lowest-found, lowest-more, lowest-end}
-use Rattle.ledger.proofs.refusals.lost_grant.Needs as need
-use Rattle.ledger.proofs.refusals.lost_grant.Needs.{else-grant·by·then-grant·else-is-lost, else-grant·by·else-grant}
+use Rattle.ledger.proofs.checks.lost_grant.Needs as need
+use Rattle.ledger.proofs.checks.lost_grant.Needs.{else-grant·by·then-grant·else-is-lost, else-grant·by·else-grant}
 
 pub returns-then-is-lost : need.returns-then-is-lost
 returns-then-is-lost g c = record {
