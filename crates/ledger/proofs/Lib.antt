@@ -6,4 +6,4 @@ pub mod Once
 pub mod Outcomes
 pub mod RowPasses
 pub mod Scans
-pub mod Uses
+pub mod ChangedUses

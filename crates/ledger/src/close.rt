@@ -1,12 +1,12 @@
 // The calls that close a bank: reclaim, and hand up.
 use crate::checks::check_closing;
 use crate::checks::check_reclaim;
-use crate::passes::free_banks;
-use crate::passes::free_grants;
-use crate::passes::hand_up_banks;
-use crate::passes::hand_up_grants;
-use crate::passes::take_from_uses;
-use crate::passes::under_of;
+use crate::freeing::free_banks;
+use crate::freeing::free_grants;
+use crate::freeing::under_of;
+use crate::handing::hand_up_banks;
+use crate::handing::hand_up_grants;
+use crate::uses::take_from_uses;
 use kind::Kind;
 use tables::Bank;
 use tables::Grant;

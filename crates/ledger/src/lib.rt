@@ -4,10 +4,13 @@
 // rule says, whatever the tables hold.
 mod chains;
 mod checks;
+mod clearing;
 mod close;
-mod passes;
+mod freeing;
+mod handing;
 mod setup;
 mod trade;
+mod uses;
 
 pub use close::hand_up;
 pub use close::reclaim;

@@ -1,7 +1,7 @@
 // Set-up: a ledger begins.
 use crate::checks::check_lengths;
-use crate::passes::clear_banks;
-use crate::passes::clear_grants;
+use crate::clearing::clear_banks;
+use crate::clearing::clear_grants;
 use kind::Kind;
 use tables::Bank;
 use tables::Grant;
