@@ -5,19 +5,14 @@ use Rattle.std.specs.declared.result.Result.{Result}
 use Rattle.std.specs.declared.result.Result.the-variants.{Ok, Err}
 use Rattle.kind.specs.declared.refusal.AmountRefusal.{AmountRefusal}
 use Rattle.kinds.specs.Bundles.{both}
-use Rattle.kinds.specs.declared.bundle.Bundle.{Bundle}
+use Rattle.kinds.specs.Engine.{Engine}
 use Rattle.count.specs.Counts.{make-count}
-use Rattle.count.specs.declared.count.Count.{Count}
 use Rattle.frames.specs.FrameSets.{make-frames, frames-answers}
 use Rattle.frames.specs.declared.frames.Frames.{Frames}
 use Rattle.windows.specs.WindowSets.{make-windows, windows-answers}
 use Rattle.windows.specs.declared.windows.Windows.{Windows}
 use Rattle.notation.specs.declared.spans.Span.{Span}
 use Rattle.amounts.specs.declared.written.Written.{Written}
-
--- the engine's bundle
-abbrev pub Engine : Type 0
-Engine = Bundle Count (Bundle Frames Windows)
 
 -- k of the value, or the refusal
 abbrev pub and-then : {X Y E : Type 0} → Result X E → (X → Result Y E) → Result Y E

@@ -6,7 +6,8 @@ use lib.Chars.{codes}
 use Rattle.std.specs.Written.{decimal}
 use Rattle.std.specs.declared.result.Result.the-variants.{Ok}
 use Rattle.notation.specs.Texts.{part-text}
-use Rattle.amounts.specs.Judging.{Engine, judged}
+use Rattle.kinds.specs.Engine.{Engine}
+use Rattle.amounts.specs.Judging.{judged}
 use Rattle.amounts.specs.Showing.{amount-text}
 use Rattle.amounts.specs.declared.written.Written.{Written}
 

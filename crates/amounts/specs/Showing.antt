@@ -6,7 +6,7 @@ use Rattle.std.specs.Written.{decimal}
 use Rattle.frames.specs.FrameSets.{frame-runs}
 use Rattle.windows.specs.WindowSets.{window-runs}
 use Rattle.notation.specs.Texts.{runs-text}
-use Rattle.amounts.specs.Judging.{Engine}
+use Rattle.kinds.specs.Engine.{Engine}
 
 -- `COUNT FRAMES WINDOWS`, frames and windows by their runs
 abbrev pub amount-text : Engine → List ℕ

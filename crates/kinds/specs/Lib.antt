@@ -1,1 +1,2 @@
 pub mod Bundles
+pub mod Engine

@@ -9,16 +9,18 @@ use Rattle.std.specs.declared.result.Result.{Result}
 use Rattle.std.specs.declared.result.Result.the-variants.{Ok, Err}
 use Rattle.kind.specs.Joins.{JoinsOn}
 use Rattle.kind.specs.declared.refusal.AmountRefusal.{AmountRefusal}
-use Rattle.amounts.specs.Judging.{Engine, judged}
-use Rattle.plan.specs.Accounts.{Makes, Accounts, added, added-amount, all-added, held-at-end}
+use Rattle.kinds.specs.Engine.{Engine, EngineMakes}
+use Rattle.amounts.specs.Judging.{judged}
+use Rattle.plan.specs.Accounts.{Accounts, added, added-amount, all-added, held-at-end}
 use Rattle.plan.specs.Reports.{held-then, held-line}
-use Rattle.plan.specs.Stages.{Named, stage}
-use Rattle.plan.specs.Verdicts.{engine-answers}
-use Rattle.plan.proofs.Engine.{engine-joins, full-leaves}
+use Rattle.stages.specs.Stages.{Named, stage}
+use Rattle.kinds.specs.Engine.{engine-answers}
+use Rattle.kinds.proofs.EngineFacts.{engine-joins}
+use Rattle.plan.proofs.FullCycle.{full-leaves}
 
 -- the rest joins on from what is held after a line
 abbrev Rest : Engine → Engine → List Engine → Engine → Type 0
-Rest held after new end = (rest : List Engine) → JoinsOn Makes after rest end → JoinsOn Makes held (new ++ rest) end
+Rest held after new end = (rest : List Engine) → JoinsOn EngineMakes after rest end → JoinsOn EngineMakes held (new ++ rest) end
 
 one-amount : (held a end : Engine) (fits : Bool) → engine-answers .fits held a ≡ fits
     → Rest held (cond fits (engine-answers .join held a) held) (cond fits (a ∷ []) []) end
@@ -33,7 +35,7 @@ one-line : (held end : Engine) (o : Option Named) → Rest held (held-line held 
 one-line held end None rest j = j
 one-line held end (Some s) rest j = one-judged held end (judged (s .takes)) rest j
 
-all-join : (held : Engine) (ls : List (List ℕ)) → JoinsOn Makes held (all-added held ls) (held-at-end held ls)
+all-join : (held : Engine) (ls : List (List ℕ)) → JoinsOn EngineMakes held (all-added held ls) (held-at-end held ls)
 all-join held [] = refl
 all-join held (l ∷ ls) = one-line held _ (stage l) (all-added (held-line held (stage l)) ls) (all-join (held-line held (stage l)) ls)
 

@@ -1,5 +1,3 @@
 mod Balance
-mod Engine
-mod Shared
+mod FullCycle
 mod Texts
-mod Visible

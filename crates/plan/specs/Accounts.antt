@@ -8,18 +8,10 @@ use Rattle.std.specs.declared.result.Result.{Result}
 use Rattle.std.specs.declared.result.Result.the-variants.{Ok, Err}
 use Rattle.kind.specs.Joins.{JoinsOn}
 use Rattle.kind.specs.declared.refusal.AmountRefusal.{AmountRefusal}
-use Rattle.count.specs.Counts.{Sums}
-use Rattle.frames.specs.FrameSets.{Unites as FramesUnite}
-use Rattle.windows.specs.WindowSets.{Unites as WindowsUnite}
-use Rattle.kinds.specs.Bundles.{BothMake}
-use Rattle.amounts.specs.Judging.{Engine, judged}
+use Rattle.kinds.specs.Engine.{Engine, EngineMakes, engine-answers}
+use Rattle.amounts.specs.Judging.{judged}
 use Rattle.plan.specs.Reports.{full-cycle, left-over, held-line}
-use Rattle.plan.specs.Stages.{Named, stage}
-use Rattle.plan.specs.Verdicts.{engine-answers, Right, verdict}
-
--- two amounts of the engine's bundle make a third
-abbrev pub Makes : Engine → Engine → Engine → Type 0
-Makes = BothMake Sums (BothMake FramesUnite WindowsUnite)
+use Rattle.stages.specs.Stages.{Named, stage}
 
 -- the amount, if it is one and fits what is held
 abbrev pub added-amount : Engine → Result Engine AmountRefusal → List Engine
@@ -42,9 +34,5 @@ held-at-end held [] = held
 held-at-end held (l ∷ ls) = held-at-end (held-line held (stage l)) ls
 
 pub record Accounts (ls : List (List ℕ)) : Type 0 where
-  pub joined : JoinsOn Makes (engine-answers .empty) (all-added (engine-answers .empty) ls) (held-at-end (engine-answers .empty) ls)
-  pub balanced : Makes (held-at-end (engine-answers .empty) ls) (left-over (held-at-end (engine-answers .empty) ls)) full-cycle
-
--- a stage is added exactly when it fits, and what is said to be in its way is there
-abbrev pub VerdictsAreRight : Type 0
-VerdictsAreRight = (held a : Engine) → Right held a (verdict held a)
+  pub joined : JoinsOn EngineMakes (engine-answers .empty) (all-added (engine-answers .empty) ls) (held-at-end (engine-answers .empty) ls)
+  pub balanced : EngineMakes (held-at-end (engine-answers .empty) ls) (left-over (held-at-end (engine-answers .empty) ls)) full-cycle

@@ -19,11 +19,12 @@ use Rattle.windows.specs.WindowSets.{window-runs, windows-of}
 use Rattle.windows.specs.Sizes.{second-count}
 use Rattle.kinds.specs.Bundles.{both}
 use Rattle.notation.specs.Texts.{runs-text}
-use Rattle.amounts.specs.Judging.{Engine, judged}
-use Rattle.plan.specs.Stages.{Named, stage}
-use Rattle.plan.specs.Verdicts.{engine-answers, verdict, held-after}
-use Rattle.plan.specs.declared.junction.Verdict.{Verdict}
-use Rattle.plan.specs.declared.junction.Verdict.the-variants.{Added, TooManyVehicles, FrameHeld, SecondHeld}
+use Rattle.kinds.specs.Engine.{Engine, engine-answers}
+use Rattle.amounts.specs.Judging.{judged}
+use Rattle.stages.specs.Stages.{Named, stage}
+use Rattle.junction.specs.Verdicts.{verdict, held-after}
+use Rattle.junction.specs.declared.verdict.Verdict.{Verdict}
+use Rattle.junction.specs.declared.verdict.Verdict.the-variants.{Added, TooManyVehicles, FrameHeld, SecondHeld}
 
 -- an amount in words
 abbrev pub words-text : Engine → List ℕ

@@ -1,17 +1,16 @@
 // A plan taken line by line, with a report of each line and of what is held in the end.
-use crate::junction::Verdict;
-use crate::junction::add;
-use crate::stage::Stage;
-use crate::stage::read_stage;
 use crate::text::AmountWords;
 use crate::text::AmountWordsDisplay;
 use crate::text::RefusalWords;
 use crate::text::RefusalWordsDisplay;
-use crate::text::VerdictDisplay;
+use crate::text::VerdictWords;
+use crate::text::VerdictWordsDisplay;
 use count::Count;
 use count::CountKind;
 use frames::Frames;
 use frames::FramesKind;
+use junction::Verdict;
+use junction::add;
 use kind::AmountRefusal;
 use kind::Kind;
 use kinds::BundleKind;
@@ -19,14 +18,16 @@ use kinds::EngineAmount;
 use kinds::engine_amount;
 use notation::Lines;
 use notation::LinesIterator;
+use stages::Stage;
+use stages::read_stage;
 use std::fmt;
 use windows::Windows;
 use windows::WindowsKind;
 ghost use Rattle.notation.specs.Cut.{lines};
 ghost use Rattle.plan.specs.Accounts.{Accounts};
 ghost use Rattle.plan.specs.Reports.{full-cycle, unread-text, refused-text, judged-text, left-over, held-text, left-text, end-text, amount-line, held-then, line-text, held-line, plan-report};
-ghost use Rattle.plan.specs.Stages.{stage};
-ghost use Rattle.plan.specs.Verdicts.{engine-answers};
+ghost use Rattle.stages.specs.Stages.{stage};
+ghost use Rattle.kinds.specs.Engine.{engine-answers};
 ghost use Rattle.amounts.specs.Judging.{judged};
 ghost use Rattle.std.specs.Of.String.{string-bytes};
 ghost use Rattle.std.specs.Vec.{made};
@@ -59,6 +60,7 @@ fn write_judged(
     ensures { λ r. ⌜ made r (λ _. string-bytes (now (out .exit)) ≡ string-bytes (now (out .entry)) ++ judged-text number (now (name .entry)) (now (amount .entry)) verdict) ⌝ }
 {
     let words = AmountWords(amount);
+    let verdict = VerdictWords(verdict);
     writeln!(out, "line {number}: {name} takes {words}: {verdict}")
 }
 

@@ -1,5 +1,5 @@
 // Amounts, verdicts and refusals in words.
-use crate::junction::Verdict;
+use junction::Verdict;
 use kind::AmountRefusal;
 use kinds::EngineAmount;
 use notation::Runs;
@@ -25,11 +25,15 @@ pub impl fmt::Display for AmountWords<'_> as AmountWordsDisplay {
     }
 }
 
-pub impl fmt::Display for Verdict as VerdictDisplay {
-    ghost shown = { λ v. Some (verdict-text v) };
+// What came of a stage.
+#[derive(Clone, Copy)]
+pub struct VerdictWords(pub Verdict);
+
+pub impl fmt::Display for VerdictWords as VerdictWordsDisplay {
+    ghost shown = { λ t. Some (verdict-text (t .0)) };
 
     fn fmt<W: fmt::Write>(&self, f: &mut fmt::Formatter<W>) -> fmt::Result {
-        match *self {
+        match self.0 {
             Verdict::Added => write!(f, "added"),
             Verdict::TooManyVehicles => write!(f, "does not fit, too many vehicles"),
             Verdict::FrameHeld(k) => write!(f, "does not fit, frame {k} is already held"),

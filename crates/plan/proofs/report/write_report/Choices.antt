@@ -5,7 +5,7 @@ use lib.ListN.{length}
 use Rattle.std.specs.Of.String.{string-bytes}
 use Rattle.notation.specs.LinesLeft.{lines-left}
 use Rattle.plan.specs.Reports.{plan-report}
-use Rattle.plan.specs.Verdicts.{engine-answers}
+use Rattle.kinds.specs.Engine.{engine-answers}
 use Rattle.plan.proofs.report.write_report.Given as given
 
 abbrev pub Inv-loop-line : given.InvT-loop-line
