@@ -9,6 +9,13 @@ ghost use Rattle.windows.specs.Sizes.{second-count};
 ghost use Rattle.windows.specs.WindowSets.{window, windows-of, Unites, windows-answers};
 ghost use mathlib.Core.Path.{_≡_};
 
+// Are the two runs the same?
+fn same_run(x: Run, y: Run) -> bool
+    ensures { λ r. ⌜ Decides r ((x .from ≡ y .from) × (x .to ≡ y .to)) ⌝ }
+{
+    x.from == y.from && x.to == y.to
+}
+
 impl Windows {
     // No second.
     fn none() -> Windows
@@ -40,7 +47,7 @@ pub impl Kind for Windows as WindowsKind {
         for p in 0..PLACES {
             let x = self.runs[p];
             let y = other.runs[p];
-            if x.from != y.from || x.to != y.to {
+            if !same_run(x, y) {
                 return false;
             }
             if x.to == 0 {

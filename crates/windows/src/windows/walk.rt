@@ -9,6 +9,7 @@ ghost use Rattle.sets.specs.Members.{OneOfTwo};
 ghost use Rattle.std.specs.Orderings.{Decides};
 ghost use Rattle.windows.specs.Sizes.{second-count, window-places};
 ghost use Rattle.windows.specs.WindowSets.{window, Reaches, windows-answers};
+ghost use lib.Dec.{eqb};
 ghost use mathlib.Core.Bool.{true, false, not, cond};
 ghost use mathlib.Core.Path.{_≡_};
 
@@ -25,6 +26,13 @@ fn put_end(runs: &mut [Run; PLACES], q: usize, at: u16)
         run.to = at;
     }
     runs[q / 2] = run;
+}
+
+// Do the two ends cancel out? An end that both sets have is none of their difference, so runs that touch become one.
+fn cancel(a: u16, b: u16) -> bool
+    ensures { λ r. ⌜ r ≡ eqb a b ⌝ }
+{
+    a == b
 }
 
 impl Windows {
@@ -76,7 +84,7 @@ impl Windows {
         }
     }
 
-    // The seconds that are in one of the two but not in both: an end that both have is none of theirs.
+    // The seconds that are in one of the two but not in both.
     pub(crate) fn difference(&self, other: &Windows) -> Windows
         ensures members { λ r. ⌜ OneOfTwo second-count window (now (self .entry)) (now (other .entry)) r ⌝ }
         ensures joined { λ r. ⌜ (windows-answers .fits (now (self .entry)) (now (other .entry)) ≡ true → r ≡ windows-answers .join (now (self .entry)) (now (other .entry))) ⌝ }
@@ -92,7 +100,7 @@ impl Windows {
             if a > SECONDS && b > SECONDS {
                 return Windows { runs };
             }
-            if a == b {
+            if cancel(a, b) {
                 i += 1;
                 j += 1;
             } else if a < b {

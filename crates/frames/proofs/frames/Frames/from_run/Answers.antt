@@ -1,6 +1,7 @@
 use mathlib.Core.Path.{_≡_, sym, ap, ap₂, subst, _∙_}
 use Prim.Native.Nat.{ℕ, _+_, _-_, _*_, _<_}
 use native.Mathlib.Omega.{arith}
+use borrow.Author.Needs.{needs}
 use lib.Bits.{bitXor}
 use lib.ListN.{getD, set}
 use Rattle.std.proofs.shelf.Edits.{fill-by-more}
@@ -19,9 +20,11 @@ pub loop-i-again : need.loop-i-again
 loop-i-again c =
     let f : ℕ → ℕ = λ k. bitXor (mask (c .args .to - k * 8)) (mask (c .args .from - k * 8)) in
     let bs = c .loop-i .bytes in
-    let i = c .loop-i .i in (
+    let i = c .loop-i .i in
+    let to-bits : c .byte-below .result ≡ mask (c .args .to - i * 8) = search needs in
+    let from-bits : c .byte-below-in-loop-i .result ≡ mask (c .args .from - i * 8) = search needs in (
       simp length-set (c .loop-i .inv .0),
-      subst (λ v. (k : ℕ) → k < i + 1 → getD (set bs i v) k 0 ≡ f k) (sym (ap₂ bitXor (c .byte-below .ensures) (c .byte-below-in-loop-i .ensures)))
+      subst (λ v. (k : ℕ) → k < i + 1 → getD (set bs i v) k 0 ≡ f k) (sym (ap₂ bitXor to-bits from-bits))
           (fill-by-more f bs i 0 (omega arith) (c .loop-i .inv .1)),
     )
 

@@ -9,6 +9,7 @@ use Rattle.sets.specs.Ends.{end-of, end-in-place}
 use Rattle.sets.specs.Runs.{blank}
 use Rattle.sets.specs.declared.run.Run.{Run}
 use Rattle.windows.specs.declared.windows.Windows.{Windows}
+use Rattle.std.proofs.shelf.Tests.{eqb-true, eqb-false}
 use Rattle.sets.proofs.Answering.{joins, leaves}
 use Rattle.sets.proofs.Covering.{ends-rise}
 use Rattle.sets.proofs.Rising.{Rises}
@@ -82,41 +83,41 @@ returns-then-b-gt-SECONDS c =
     (omega arith) (omega arith) in
     record { members = one; joined = λ e. joins window-sets x y _ e one; left = λ e. leaves window-sets x y _ e one }
 
-pub walk-again-then-a-b : need.walk-again-then-a-b
-walk-again-then-a-b c =
+pub walk-again-then-cancel : need.walk-again-then-cancel
+walk-again-then-cancel c =
     both-turn (c .args .self .now) (c .args .other .now) (c .walk .runs) (c .walk .i) (c .walk .j) (c .walk .n) (c .end-a .result) (c .end-b .result)
-    (c .walk .inv) (c .end-a .ensures .value) (c .end-b .ensures .value) (omega (arith, c .else-a-gt-SECONDS .either)) (c .if-a-b .taken)
+    (c .walk .inv) (c .end-a .ensures .value) (c .end-b .ensures .value) (omega (arith, c .else-a-gt-SECONDS .either, eqb-true _ _ (sym (c .if-cancel .ensures tt)))) (eqb-true _ _ (sym (c .if-cancel .ensures tt)))
 
 pub put-end-requires : need.put-end-requires
 put-end-requires c κs =
     left-room (c .args .self .now) (c .args .other .now) (c .walk .runs) (c .walk .i) (c .walk .j) (c .walk .n) (c .end-a .result) (c .end-b .result)
-    (c .walk .inv) (c .end-a .ensures .value) (c .end-b .ensures .value) (omega arith) (c .if-a-b-2 .taken)
+    (c .walk .inv) (c .end-a .ensures .value) (c .end-b .ensures .value) (omega arith) (c .if-a-b .taken)
 
 pub add-n : need.add-n
 add-n c =
     let h = left-room (c .args .self .now) (c .args .other .now) (c .walk .runs) (c .walk .i) (c .walk .j) (c .walk .n) (c .end-a .result) (c .end-b .result)
-    (c .walk .inv) (c .end-a .ensures .value) (c .end-b .ensures .value) (omega arith) (c .if-a-b-2 .taken) in
+    (c .walk .inv) (c .end-a .ensures .value) (c .end-b .ensures .value) (omega arith) (c .if-a-b .taken) in
     omega arith
 
-pub walk-again-then-a-b-2 : need.walk-again-then-a-b-2
-walk-again-then-a-b-2 c =
+pub walk-again-then-a-b : need.walk-again-then-a-b
+walk-again-then-a-b c =
     left-turn (c .args .self .now) (c .args .other .now) (c .walk .runs) (c .walk .i) (c .walk .j) (c .walk .n) (c .end-a .result) (c .end-b .result)
     (c .walk .inv) (c .end-a .ensures .value) (c .end-b .ensures .value) (c .put-end .last .runs) (c .put-end .array-long)
-    (omega arith) (c .if-a-b-2 .taken) (c .put-end .ensures .here) (c .put-end .ensures .others)
+    (omega arith) (c .if-a-b .taken) (c .put-end .ensures .here) (c .put-end .ensures .others)
 
-pub put-end-requires-else-a-b-2 : need.put-end-requires-else-a-b-2
-put-end-requires-else-a-b-2 c κs =
+pub put-end-requires-else-a-b : need.put-end-requires-else-a-b
+put-end-requires-else-a-b c κs =
     right-room (c .args .self .now) (c .args .other .now) (c .walk .runs) (c .walk .i) (c .walk .j) (c .walk .n) (c .end-a .result) (c .end-b .result)
-    (c .walk .inv) (c .end-a .ensures .value) (c .end-b .ensures .value) (omega (arith, c .else-a-gt-SECONDS .either)) (omega (arith, c .if-a-b .left))
+    (c .walk .inv) (c .end-a .ensures .value) (c .end-b .ensures .value) (omega (arith, c .else-a-gt-SECONDS .either)) (omega (arith, eqb-false _ _ (sym (c .if-cancel .ensures tt))))
 
-pub add-n-else-a-b-2 : need.add-n-else-a-b-2
-add-n-else-a-b-2 c =
+pub add-n-else-a-b : need.add-n-else-a-b
+add-n-else-a-b c =
     let h = right-room (c .args .self .now) (c .args .other .now) (c .walk .runs) (c .walk .i) (c .walk .j) (c .walk .n) (c .end-a .result) (c .end-b .result)
-    (c .walk .inv) (c .end-a .ensures .value) (c .end-b .ensures .value) (omega (arith, c .else-a-gt-SECONDS .either)) (omega (arith, c .if-a-b .left)) in
+    (c .walk .inv) (c .end-a .ensures .value) (c .end-b .ensures .value) (omega (arith, c .else-a-gt-SECONDS .either)) (omega (arith, eqb-false _ _ (sym (c .if-cancel .ensures tt)))) in
     omega arith
 
 pub walk-again : need.walk-again
 walk-again c =
     right-turn (c .args .self .now) (c .args .other .now) (c .walk .runs) (c .walk .i) (c .walk .j) (c .walk .n) (c .end-a .result) (c .end-b .result)
-    (c .walk .inv) (c .end-a .ensures .value) (c .end-b .ensures .value) (c .put-end-else-a-b-2 .last .runs) (c .put-end-else-a-b-2 .array-long)
-    (omega (arith, c .else-a-gt-SECONDS .either)) (omega (arith, c .if-a-b .left)) (c .put-end-else-a-b-2 .ensures .here) (c .put-end-else-a-b-2 .ensures .others)
+    (c .walk .inv) (c .end-a .ensures .value) (c .end-b .ensures .value) (c .put-end-else-a-b .last .runs) (c .put-end-else-a-b .array-long)
+    (omega (arith, c .else-a-gt-SECONDS .either)) (omega (arith, eqb-false _ _ (sym (c .if-cancel .ensures tt)))) (c .put-end-else-a-b .ensures .here) (c .put-end-else-a-b .ensures .others)

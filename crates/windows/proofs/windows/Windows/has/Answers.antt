@@ -31,4 +31,4 @@ returns c =
     let is : window x s ≡ i % 2 =
     covered-at second-count window-places (x .runs) (tidy-of x) i s (omega (arith, c .from-second .ensures))
     (λ q l. omega (arith, c .ends .inv q l, c .from-second .ensures)) (omega (arith, c .from-second .ensures, c .ends-test .left)) in
-    (λ e. is ∙ eqb-true _ _ e, λ e. eq-eqb _ _ (sym is ∙ e))
+    (λ e. omega (arith, is, eqb-true _ _ e), λ e. eq-eqb _ _ (omega (arith, is, e)))

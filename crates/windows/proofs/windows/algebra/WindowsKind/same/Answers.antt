@@ -19,14 +19,14 @@ equal : (x y : Windows)
 equal x y each =
     (λ _. same-data x y (same-places (x .runs) (y .runs) (tidy-of x .0 ∙ sym (tidy-of y .0)) (λ q l. each q (omega (arith, tidy-of x .0)))), λ _. refl)
 
-pub returns-then-x-y : need.returns-then-x-y
-returns-then-x-y c =
+pub returns-then-not-same-run : need.returns-then-not-same-run
+returns-then-not-same-run c =
     let x = c .args .self .now in
     let y = c .args .other .now in
     let p = c .loop-p .p in
     let differ : Decides false (x ≡ y) = (
       λ e. absurd (false≢true e),
-      λ e. absurd (⊎-elim (λ d. d (ap (λ z. place (z .runs) p .from) e)) (λ d. d .1 (ap (λ z. place (z .runs) p .to) e)) (c .then-x-y .either)),
+      λ e. c .if-not-same-run .ensures tt .1 (ap (λ z. place (z .runs) p .from) e, ap (λ z. place (z .runs) p .to) e),
     ) in
     (differ, same-members window-sets x y false differ)
 
@@ -36,7 +36,7 @@ returns-then-x-eq0 c =
     let y = c .args .other .now in
     let p = c .loop-p .p in
     let zero-x = c .if-x-eq0 .taken in
-    let zero-y = sym (c .if-x-y-2 .left) ∙ zero-x in
+    let zero-y = sym (c .if-not-same-run .ensures tt .0 refl .1) ∙ zero-x in
     let same = equal x y (λ q l. ⊎-elim
     (λ (lt : q < p). c .loop-p .inv q lt)
     (λ (ge : p ≤ q).
