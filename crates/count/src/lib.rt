@@ -2,4 +2,5 @@
 mod count;
 
 pub use count::Count;
+pub use count::TOP;
 pub use count::algebra::CountKind;

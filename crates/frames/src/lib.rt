@@ -2,6 +2,7 @@
 mod frames;
 mod runs;
 
+pub use frames::FRAMES;
 pub use frames::Frames;
 pub use frames::algebra::FramesKind;
 pub use runs::FrameRuns;

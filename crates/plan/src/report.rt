@@ -7,6 +7,8 @@ use crate::text::VerdictWords;
 use crate::text::VerdictWordsDisplay;
 use count::Count;
 use count::CountKind;
+use count::TOP;
+use frames::FRAMES;
 use frames::Frames;
 use frames::FramesKind;
 use junction::Verdict;
@@ -21,6 +23,7 @@ use notation::LinesIterator;
 use stages::Stage;
 use stages::read_stage;
 use std::fmt;
+use windows::SECONDS;
 use windows::Windows;
 use windows::WindowsKind;
 ghost use Rattle.notation.specs.Cut.{lines};
@@ -68,13 +71,13 @@ fn write_judged(
 fn whole_cycle() -> EngineAmount
     ensures { λ r. ⌜ r ≡ full-cycle ⌝ }
 {
-    let Ok(count) = Count::new(1_000_000_000) else {
+    let Ok(count) = Count::new(TOP) else {
         return EngineAmount::empty();
     };
-    let Ok(frames) = Frames::from_run(0, 256) else {
+    let Ok(frames) = Frames::from_run(0, FRAMES) else {
         return EngineAmount::empty();
     };
-    let Ok(windows) = Windows::from_run(0, 128) else {
+    let Ok(windows) = Windows::from_run(0, u32::from(SECONDS)) else {
         return EngineAmount::empty();
     };
     engine_amount(count, frames, windows)
