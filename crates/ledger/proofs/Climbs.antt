@@ -14,7 +14,7 @@ use Rattle.tables.specs.declared.rows.Bank.{Bank}
 use Rattle.ledger.specs.declared.chains.Chain.{Chain}
 use Rattle.ledger.specs.Posts.{Rows, rows-of}
 use Rattle.tables.specs.Rows.{above}
-use Rattle.tables.specs.Tables.{among, under-it, free-bank, bank-at, chain-in, chain, under}
+use Rattle.tables.specs.Tables.{among, is-none, under-it, free-bank, bank-at, chain-in, chain, lost, under}
 
 -- the rows bs in front of a chain, where that is whole
 abbrev pub under-all : List ℕ → List ℕ → List ℕ
@@ -36,6 +36,15 @@ under-it-push b (y ∷ bs) x = refl
 under-root : (bs : List ℕ) (x : ℕ) → under-all bs (x ∷ []) ≡ bs ++ x ∷ []
 under-root [] x = refl
 under-root (b ∷ bs) x = ap (under-it b) (under-root bs x) ∙ under-it-push b bs x
+
+-- what the length of a chain tells of its being one
+pub no-chain : (xs : List ℕ) (n : ℕ) → n ≡ length xs → n ≡ 0 → is-none xs ≡ true
+no-chain [] n counts e = refl
+no-chain (x ∷ xs) n counts e = let more : length (x ∷ xs) ≡ 0 = sym counts ∙ e in absurd (omega (arith, more))
+
+pub a-chain : (xs : List ℕ) (n : ℕ) → n ≡ length xs → (n ≡ 0 → ⊥) → is-none xs ≡ false
+a-chain [] n counts ne = absurd (ne counts)
+a-chain (x ∷ xs) n counts ne = refl
 
 above-drop : (xs : List ℕ) → above xs ≡ drop 1 xs
 above-drop [] = refl
@@ -94,6 +103,11 @@ module _ {A : Type 0} (none : A) (banks : List (Bank A)) where
           next ∙ ap (under-all (take i rows)) (cond-false (eqb row 0) (0 ∷ []) _ (ne-eqb row 0 ne) ∙ ap (λ (z : ℕ). under-it row (chain-in none (16 - (i + 1)) banks z)) (sym e))
           ∙ sym (under-push (take i rows) row _) ∙ ap (λ zs. under-all zs (chain-in none (16 - (i + 1)) banks p)) (sym written);
     }
+
+  -- a bank that is not live has no chain
+  pub free-lost : (b : ℕ) → bank-at none banks b .live ≡ false → lost none banks b ≡ true
+  unfolding chain
+  free-lost b e = ap is-none (stop 16 b e)
 
   -- the rows of a chain stand in the table
   pub live-within : (b : ℕ) → bank-at none banks b .live ≡ true → b < length banks

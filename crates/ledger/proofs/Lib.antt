@@ -7,3 +7,4 @@ pub mod Outcomes
 pub mod RowPasses
 pub mod Scans
 pub mod ChangedUses
+pub mod Whole

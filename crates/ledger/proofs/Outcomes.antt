@@ -9,7 +9,7 @@ use Rattle.std.specs.declared.result.Result.{Result}
 use Rattle.std.specs.declared.result.Result.the-variants.{Ok, Err}
 use Rattle.std.specs.declared.option.Option.{Option}
 use Rattle.std.specs.declared.option.Option.the-variants.{Some, None}
-use Rattle.std.proofs.shelf.Lists.{getD-read, getD-default}
+use Rattle.std.proofs.shelf.Lists.{getD-default}
 use Rattle.kind.specs.Algebra.{Answers}
 use Rattle.tables.specs.declared.refusal.Refusal.{Refusal}
 use Rattle.tables.specs.declared.rows.Bank.{Bank}
@@ -46,15 +46,15 @@ module _ {A : Type 0} (q : Answers A) where
   bought s b r a rows banks due are bs =
       accepts _ s _ _ _ due (record { answered = refl; left = states refl (bs ∙ ap (λ (rs : List ℕ). change-uses q (λ u. q .join u a) rs (s .banks)) are) refl })
 
-  -- a grant is given back: the grant as it was read, the rows of its chain, and what was written
-  pub backed : (s : State A) (r n : ℕ) (grant : Grant A) (rows : List ℕ) (banks : List (Bank A)) (free : Grant A) → None ≡ back-refusal q s r n
-      → r < length (s .grants) → grant ≡ getD (s .grants) r grant → rows ≡ chain (q .empty) (s .banks) (grant-at (q .empty) (s .grants) r .bank)
-      → banks ≡ change-uses q (λ u. q .remainder u (grant .amount)) rows (s .banks) → free ≡ free-grant (q .empty)
+  -- a grant is given back: its amount as it was read, the rows of its chain, and what was written
+  pub backed : (s : State A) (r n : ℕ) (e : Grant A) (rows : List ℕ) (banks : List (Bank A)) (free : Grant A) → None ≡ back-refusal q s r n
+      → r < length (s .grants) → rows ≡ chain (q .empty) (s .banks) (grant-at (q .empty) (s .grants) r .bank)
+      → banks ≡ change-uses q (λ u. q .remainder u (getD (s .grants) r e .amount)) rows (s .banks) → free ≡ free-grant (q .empty)
       → Meets (backs q s r n) (Ok 0) (record { last = s .last; banks = banks; grants = set (s .grants) r free })
-  backed s r n grant rows banks free due h is are b f =
-      let read = getD-read (s .grants) r grant h is (free-grant (q .empty)) in
+  backed s r n e rows banks free due h are b f =
+      let read = getD-default (s .grants) r e (free-grant (q .empty)) h in
       let in-grant = ap (λ (g : Grant A). change-uses q (λ u. q .remainder u (g .amount)) (chain (q .empty) (s .banks) (grant-at (q .empty) (s .grants) r .bank)) (s .banks)) read in
-      let in-rows = ap (λ (rs : List ℕ). change-uses q (λ u. q .remainder u (grant .amount)) rs (s .banks)) are in
+      let in-rows = ap (λ (rs : List ℕ). change-uses q (λ u. q .remainder u (getD (s .grants) r e .amount)) rs (s .banks)) are in
       accepts _ s _ _ _ due (record { answered = refl; left = states refl (b ∙ in-rows ∙ in-grant) (ap (set (s .grants) r) f) })
 
   -- a bank is handed up: the number of its parent as it was read, and what was written

@@ -6,8 +6,6 @@ use Prim.Native.Nat.{ℕ, _≤_}
 use lib.ListN.{length, take, getD}
 use denote.Ref.{RefT}
 use Rattle.std.specs.declared.result.Result.{Result}
-use Rattle.std.specs.declared.option.Option.{Option}
-use Rattle.std.specs.declared.option.Option.the-variants.{Some, None}
 use Rattle.std.specs.Options.{valueOr}
 use Rattle.tables.specs.declared.rows.Bank.{Bank}
 use Rattle.tables.specs.declared.rows.Grant.{Grant}
@@ -30,11 +28,6 @@ pub record Meets {A : Type 0} (o : Outcome A) (r : Result ℕ Refusal) (s : Stat
 pub record Places {A : Type 0} (o : Outcome A) (before place : A) : Type 0 where
   pub holds : place ≡ valueOr (o .placed) before
 
--- P holds where no refusal is due
-abbrev pub Clear : Option Refusal → Type 0 → Type 0
-Clear None P = P
-Clear (Some r) P = Unit {0}
-
 -- a chain of banks as the code holds it
 abbrev pub rows-of : Chain → List ℕ
 rows-of c = take (c .len) (c .rows)
@@ -47,3 +40,7 @@ pub record Rows (c : Chain) (rows : List ℕ) : Type 0 where
 -- is the row among those marked
 abbrev pub marked : List Bool → ℕ → Bool
 marked marks b = getD marks b false
+
+-- the rows marked are those that pass the test
+abbrev pub Marked : List Bool → (ℕ → Bool) → Type 0
+Marked marks f = (b : ℕ) → marked marks b ≡ f b

@@ -4,7 +4,7 @@ ghost use mathlib.Core.Bool.{true};
 ghost use Prim.Native.Nat.{_≤_, _<_};
 ghost use lib.ListN.{length};
 ghost use Rattle.std.specs.shelf.Lists.{All};
-ghost use Rattle.tables.specs.Tables.{among, bank-at, chain, lost};
+ghost use Rattle.tables.specs.Tables.{among, bank-at, chain};
 ghost use Rattle.tables.specs.Rows.{above, nearest, over, short-of};
 ghost use Rattle.ledger.specs.Posts.{Rows, rows-of};
 use kind::Kind;
@@ -62,13 +62,6 @@ pub(crate) fn chain_of<K: Kind>(banks: &[Bank<K>], bank: u32) -> Chain
         row = banks[row as usize].parent;
     }
     Chain { rows, len: 0 }
-}
-
-// Has `bank` no whole chain?
-pub(crate) fn is_lost<K: Kind>(banks: &[Bank<K>], bank: u32) -> bool
-    ensures { λ r. ⌜ r ≡ lost (K·Kind .answers .empty) (now (banks .entry)) bank ⌝ }
-{
-    chain_of(banks, bank).len == 0
 }
 
 pub(crate) fn has(rows: &[u32], bank: usize) -> bool

@@ -1,18 +1,21 @@
 // The checks of each call, in their order. A check that passes hands on the chain that it gathered.
 ghost use mathlib.Core.Path.{_≡_};
+ghost use mathlib.Core.Bool.{not, _&&_};
 ghost use Prim.Native.Nat.{_≤_, _<_};
 ghost use lib.ListN.{length};
 ghost use Rattle.std.specs.Options.{Cases};
-ghost use Rattle.tables.specs.Tables.{grant-at, chain};
+ghost use Rattle.std.specs.declared.option.Option.the-variants.{None};
+ghost use Rattle.tables.specs.Tables.{bank-at, grant-at, chain, under};
 ghost use Rattle.tables.specs.Rows.{lost-bank, lost-grant};
 ghost use Rattle.rules.specs.Rules.{misfit, open-refusal, buy-refusal, back-refusal, closing-refusal, reclaim-refusal, stock-refusal};
-ghost use Rattle.ledger.specs.Posts.{state, Rows};
+ghost use Rattle.ledger.specs.Posts.{state, Rows, Marked};
 ghost use Rattle.std.specs.Results.{errPart};
 ghost use Rattle.std.specs.Vec.{made};
+use crate::branches::Branch;
+use crate::branches::marks_under;
 use crate::chains::Chain;
 use crate::chains::chain_of;
 use crate::chains::is_live;
-use crate::chains::is_lost;
 use crate::chains::nearest_over;
 use crate::chains::nearest_short;
 use kind::Kind;
@@ -150,28 +153,22 @@ pub(crate) fn check_back<K: Kind>(
     Ok(chain)
 }
 
-// The lowest live bank with no whole chain.
-fn lost_bank<K: Kind>(banks: &[Bank<K>]) -> Option<u32>
-    requires { ⌜ length (now banks) ≤ 64 ⌝ }
-    ensures { λ r. ⌜ r ≡ lost-bank (K·Kind .answers) (now (banks .entry)) ⌝ }
+// Is the grant live, in a bank that is not?
+fn is_stray<K: Kind>(banks: &[Bank<K>], grant: &Grant<K>) -> bool
+    ensures { λ r. ⌜ r ≡ (now (grant .entry) .live && not (bank-at (K·Kind .answers .empty) (now (banks .entry)) (now (grant .entry) .bank) .live)) ⌝ }
 {
-    for i in 0..banks.len() {
-        if banks[i].live && is_lost(banks, i as u32) {
-            return Some(i as u32);
-        }
-    }
-    None
+    grant.live && !is_live(banks, grant.bank)
 }
 
-// The lowest live grant whose bank has no whole chain.
+// The lowest live grant whose bank has no whole chain, where each live bank has one.
 fn lost_grant<K: Kind>(banks: &[Bank<K>], grants: &[Grant<K>]) -> Option<u32>
-    requires { ⌜ length (now grants) ≤ 1024 ⌝ }
+    requires whole { ⌜ lost-bank (K·Kind .answers) (now banks) ≡ None ⌝ }
+    requires few { ⌜ length (now grants) ≤ 1024 ⌝ }
     ensures is { λ r. ⌜ r ≡ lost-grant (K·Kind .answers) (now (banks .entry)) (now (grants .entry)) ⌝ }
     ensures within { λ r. ⌜ Cases r (Unit {0}) (λ i. i < length (now (grants .entry))) ⌝ }
 {
     for i in 0..grants.len() {
-        let grant = grants[i];
-        if grant.live && is_lost(banks, grant.bank) {
+        if is_stray(banks, &grants[i]) {
             return Some(i as u32);
         }
     }
@@ -183,9 +180,10 @@ pub(crate) fn check_closing<K: Kind>(
     banks: &[Bank<K>],
     grants: &[Grant<K>],
     bank: u32,
-) -> Result<(), Refusal>
+) -> Result<[bool; 64], Refusal>
     ensures due { λ r. ⌜ errPart r ≡ closing-refusal (K·Kind .answers) (state (head .entry) (banks .entry) (grants .entry)) bank ⌝ }
-    ensures within { λ r. ⌜ made r (λ _. (bank < length (now (banks .entry))) × (length (now (banks .entry)) ≤ 64) × (length (now (grants .entry)) ≤ 1024)) ⌝ }
+    ensures marks { λ r. ⌜ made r (λ m. Marked m (under (K·Kind .answers .empty) (now (banks .entry)) bank)) ⌝ }
+    ensures within { λ r. ⌜ made r (λ _. (bank < length (now (banks .entry))) × (length (now (grants .entry)) ≤ 1024)) ⌝ }
 {
     check_lengths(head, banks, grants)?;
     if bank as usize >= banks.len() {
@@ -197,13 +195,11 @@ pub(crate) fn check_closing<K: Kind>(
     if !is_live(banks, bank) {
         return Err(Refusal::BankFree(bank));
     }
-    if let Some(lost) = lost_bank(banks) {
-        return Err(Refusal::OutOfOrder(lost));
-    }
+    let marks = marks_under(banks, bank)?;
     if let Some(row) = lost_grant(banks, grants) {
         return Err(Refusal::OutOfOrder(grants[row as usize].bank));
     }
-    Ok(())
+    Ok(marks)
 }
 
 pub(crate) fn check_reclaim<K: Kind>(
@@ -211,17 +207,25 @@ pub(crate) fn check_reclaim<K: Kind>(
     banks: &[Bank<K>],
     grants: &[Grant<K>],
     bank: u32,
-) -> Result<Chain, Refusal>
+) -> Result<Branch, Refusal>
     ensures due { λ r. ⌜ errPart r ≡ reclaim-refusal (K·Kind .answers) (state (head .entry) (banks .entry) (grants .entry)) bank ⌝ }
-    ensures rows { λ r. ⌜ made r (λ c. Rows c (chain (K·Kind .answers .empty) (now (banks .entry)) bank)) ⌝ }
-    ensures within { λ r. ⌜ made r (λ _. (bank < length (now (banks .entry))) × (length (now (banks .entry)) ≤ 64) × (length (now (grants .entry)) ≤ 1024)) ⌝ }
+    ensures rows { λ r. ⌜ made r (λ b. Rows (b .chain) (chain (K·Kind .answers .empty) (now (banks .entry)) bank)) ⌝ }
+    ensures marks { λ r. ⌜ made r (λ b. Marked (b .marks) (under (K·Kind .answers .empty) (now (banks .entry)) bank)) ⌝ }
+    ensures within { λ r. ⌜ made r (λ _. (bank < length (now (banks .entry))) × (length (now (grants .entry)) ≤ 1024)) ⌝ }
 {
-    check_closing(head, banks, grants, bank)?;
+    let marks = check_closing(head, banks, grants, bank)?;
     let chain = chain_of(banks, bank);
     if let Some(short) = nearest_short(banks, chain.rows_above(), &banks[bank as usize].used) {
         return Err(Refusal::OutOfOrder(short));
     }
-    Ok(chain)
+    Ok(Branch { chain, marks })
+}
+
+// Is the bank live, with no more in use than its limit holds?
+fn is_sound<K: Kind>(bank: &Bank<K>) -> bool
+    ensures { λ r. ⌜ r ≡ (now (bank .entry) .live && K·Kind .answers .holds (now (bank .entry) .limit) (now (bank .entry) .used)) ⌝ }
+{
+    bank.live && bank.limit.holds(&bank.used)
 }
 
 pub(crate) fn check_stock<K: Kind>(
@@ -232,8 +236,7 @@ pub(crate) fn check_stock<K: Kind>(
     ensures { λ r. ⌜ errPart r ≡ stock-refusal (K·Kind .answers) (state (head .entry) (banks .entry) (grants .entry)) ⌝ }
 {
     check_lengths(head, banks, grants)?;
-    let root = banks[0];
-    if !root.live || !root.limit.holds(&root.used) {
+    if !is_sound(&banks[0]) {
         return Err(Refusal::OutOfOrder(0));
     }
     Ok(())

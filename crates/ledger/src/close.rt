@@ -3,7 +3,6 @@ use crate::checks::check_closing;
 use crate::checks::check_reclaim;
 use crate::freeing::free_banks;
 use crate::freeing::free_grants;
-use crate::freeing::under_of;
 use crate::handing::hand_up_banks;
 use crate::handing::hand_up_grants;
 use crate::uses::take_from_uses;
@@ -26,12 +25,11 @@ pub fn reclaim<K: Kind>(
     ensures meets { λ r. ⌜ Meets (reclaims (K·Kind .answers) (state (head .entry) (banks .entry) (grants .entry)) bank) r (state (head .exit) (banks .exit) (grants .exit)) ⌝ }
     ensures places { λ _. ⌜ Places (reclaims (K·Kind .answers) (state (head .entry) (banks .entry) (grants .entry)) bank) (now (place .entry)) (now (place .exit)) ⌝ }
 {
-    let chain = check_reclaim(head, banks, grants, bank)?;
+    let branch = check_reclaim(head, banks, grants, bank)?;
     let used = banks[bank as usize].used;
-    let gone = under_of(banks, bank);
-    take_from_uses(banks, chain.rows_above(), &used);
-    free_banks(banks, &gone);
-    let count = free_grants(grants, &gone);
+    take_from_uses(banks, branch.chain.rows_above(), &used);
+    free_banks(banks, &branch.marks);
+    let count = free_grants(grants, &branch.marks);
     *place = used;
     Ok(count)
 }

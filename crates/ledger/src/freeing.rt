@@ -1,15 +1,12 @@
-// What reclaim does to the two tables: the banks under one are marked, and marked rows are freed.
-use crate::chains::chain_of;
-use crate::chains::has;
+// What reclaim does to the two tables: it frees the rows marked.
 use kind::Kind;
 use tables::Bank;
 use tables::Grant;
 ghost use mathlib.Core.Path.{_≡_};
 ghost use mathlib.Core.Bool.{_&&_};
 ghost use mathlib.Core.List.{map};
-ghost use Prim.Native.Nat.{ℕ, _≤_, _<_};
+ghost use Prim.Native.Nat.{_≤_};
 ghost use lib.ListN.{length};
-ghost use Rattle.tables.specs.Tables.{under};
 ghost use Rattle.tables.specs.Rows.{each-at, how-many, held, freed-bank, freed-grant};
 ghost use Rattle.ledger.specs.Posts.{marked};
 
@@ -18,19 +15,6 @@ fn is_marked(marks: &[bool], row: usize) -> bool
     ensures { λ r. ⌜ r ≡ marked (now (marks .entry)) row ⌝ }
 {
     row < marks.len() && marks[row]
-}
-
-// Marks each bank that is `bank` or stands beneath it.
-pub(crate) fn under_of<K: Kind>(banks: &[Bank<K>], bank: u32) -> [bool; 64]
-    requires { ⌜ length (now banks) ≤ 64 ⌝ }
-    ensures { λ r. ⌜ ((b : ℕ) → marked r b ≡ under (K·Kind .answers .empty) (now (banks .entry)) bank b) ⌝ }
-{
-    let mut marks = [false; 64];
-    for i in 0..banks.len() {
-        let chain = chain_of(banks, i as u32);
-        marks[i] = has(chain.rows(), bank as usize);
-    }
-    marks
 }
 
 // Is the row live, and its bank marked?

@@ -2,6 +2,7 @@
 //
 // The caller keeps the head and the two tables and lends them to each call. A call answers, and leaves all of them, as its
 // rule says, whatever the tables hold.
+mod branches;
 mod chains;
 mod checks;
 mod clearing;

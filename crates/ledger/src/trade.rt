@@ -70,8 +70,7 @@ pub fn give_back<K: Kind>(
 {
     let chain = check_back(head, banks, grants, row, serial)?;
     let at = row as usize;
-    let grant = grants[at];
-    take_from_uses(banks, chain.rows(), &grant.amount);
+    take_from_uses(banks, chain.rows(), &grants[at].amount);
     grants[at] = Grant::free();
     Ok(0)
 }

@@ -20,5 +20,5 @@ take-from-uses-requires g c κs = record {
 
 pub returns : need.returns
 returns g c =
-    backed (g .K·Kind .answers) (state (c .args .head) (c .args .banks) (c .args .grants)) _ _ _ _ _ _ (c .in-Continue-chain .ensures tt .due)
-    (c .in-Continue-chain .ensures tt .within) (c .index-grants-at .is) (c .rows .ensures ∙ c .in-Continue-chain .ensures tt .rows .are) (c .take-from-uses .ensures) (c .free .ensures)
+    backed (g .K·Kind .answers) (state (c .args .head) (c .args .banks) (c .args .grants)) _ _ (c .index-grants-at .result) _ _ _ (c .in-Continue-chain .ensures tt .due)
+    (c .in-Continue-chain .ensures tt .within) (c .rows .ensures ∙ c .in-Continue-chain .ensures tt .rows .are) (c .take-from-uses .ensures) (c .free .ensures)
