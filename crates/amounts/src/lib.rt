@@ -1,4 +1,6 @@
 // Amounts of the engine's bundle as text, both ways.
+#![tactic(auto)]
+
 mod laws;
 mod showing;
 mod written;

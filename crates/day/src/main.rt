@@ -1,4 +1,6 @@
 // A day of a junction on one ledger: north and south open banks, buy vehicles, frames and green, and close at night.
+#![tactic(auto)]
+
 mod desk;
 mod words;
 

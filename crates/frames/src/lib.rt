@@ -1,4 +1,6 @@
 // Frames: sets of frame numbers that unite if they share none.
+#![tactic(auto)]
+
 mod frames;
 mod runs;
 

@@ -1,4 +1,6 @@
 // What a junction holds, and whether one stage more fits.
+#![tactic(auto)]
+
 mod laws;
 mod verdict;
 

@@ -1,4 +1,6 @@
 // What a kind of resource is: the questions it answers, the laws it keeps, and why an amount may be refused when it is made.
+#![tactic(auto)]
+
 mod kind;
 mod refusal;
 

@@ -1,4 +1,6 @@
 // The kinds that are supplied: counts, frames, windows, and bundles of any two kinds.
+#![tactic(auto)]
+
 mod bundle;
 mod engine;
 

@@ -1,4 +1,6 @@
 // Tests of the compiled kinds, on amounts at their limits.
+#![tactic(auto)]
+
 #[cfg(test)]
 mod tests {
     use kinds::{AmountRefusal, Bundle, Count, EngineAmount, Frames, Kind, Windows, engine_amount};

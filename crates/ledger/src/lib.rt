@@ -2,6 +2,8 @@
 //
 // The caller keeps the head and the two tables and lends them to each call. A call answers, and leaves all of them, as its
 // rule says, whatever the tables hold.
+#![tactic(auto)]
+
 mod branches;
 mod chains;
 mod checks;

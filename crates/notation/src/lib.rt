@@ -1,4 +1,6 @@
 // Text: bytes cut into lines and pieces, numbers and runs read from them, and runs written as text.
+#![tactic(auto)]
+
 mod laws;
 mod lines;
 mod numbers;

@@ -1,4 +1,6 @@
 // A plan of the stages of one junction: each stage is added to what the junction holds if it fits, and what came of it is told.
+#![tactic(auto)]
+
 mod report;
 mod text;
 

@@ -1,4 +1,6 @@
 // The one priority call of a signal cycle: a bus or a tram may ask for it, and one at most has it.
+#![tactic(auto)]
+
 ghost use Rattle.priority.specs.Priorities.{Makes, priority_answers};
 ghost use Rattle.std.proofs.Common.{rules};
 

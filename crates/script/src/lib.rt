@@ -1,4 +1,6 @@
 // A script for a ledger of the engine's bundle: its lines read as commands, and the text of what is replied to each.
+#![tactic(auto)]
+
 mod command;
 mod reading;
 mod reply;

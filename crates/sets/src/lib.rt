@@ -1,4 +1,6 @@
 // Sets of numbers below a bound: what their disjoint unions are, and how bytes and runs keep them.
+#![tactic(auto)]
+
 mod laws;
 mod run;
 

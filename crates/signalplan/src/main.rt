@@ -1,4 +1,6 @@
 // Reads a plan of the stages of a junction from standard input, and prints what comes of each stage and what is held in the end.
+#![tactic(auto)]
+
 use plan::write_report;
 use std::io::Read;
 

@@ -1,4 +1,6 @@
 // The stages of a plan, read from its lines.
+#![tactic(auto)]
+
 mod names;
 mod stage;
 

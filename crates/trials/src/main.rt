@@ -1,4 +1,6 @@
 // Trials of a ledger: at its bounds, over tables out of order, and in the order of its checks. Each prints one line, `ok` or what was seen.
+#![tactic(auto)]
+
 mod books;
 mod bounds;
 mod disorder;
