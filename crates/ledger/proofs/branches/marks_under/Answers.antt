@@ -15,7 +15,7 @@ pub returns-then-chain-eq0 : goal.returns-then-chain-eq0
 returns-then-chain-eq0 g c = record {
   due =
       ap (λ x. refuse_at x OutOfOrder) (lowest_found _ _ _ c.loop-i.invariant.scanned c.index-banks-i.result c.loop-i-test.true
-      (and_from _ _ c.if-banks-i.true (no_chain _ _ c.chain-of-chain.ensures.counts c.if-chain-eq0.true)));
+      (and_from _ _ c.if-banks-i.true (no_chain _ _ c.chain_of-chain.ensures.counts c.if-chain-eq0.true)));
   whole = tt;
   marks = tt;
 }
@@ -25,10 +25,10 @@ loop-i-preserved g c =
     let few : c.loop-i.i < 64 = omega arith in
     record {
       scanned = lowest_more _ _ _ c.loop-i.invariant.scanned c.index-banks-i.result c.loop-i-test.true (elim c.else-banks-i.branch [
-        | else-banks-i-via-then-banks-i+else-chain-eq0 w ↦ and_right _ _ (a_chain _ _ c.chain-of-chain.ensures.counts w.if-chain-eq0.false)
+        | else-banks-i-via-then-banks-i+else-chain-eq0 w ↦ and_right _ _ (a_chain _ _ c.chain_of-chain.ensures.counts w.if-chain-eq0.false)
         | else-banks-i-via-else-banks-i w ↦ and_left _ _ w.if-banks-i.false
       ]);
-      made = marks_more c.loop-i.invariant.made few _ (under_read _ _ _ _ _ _ _ c.chain-of-chain.ensures c.rows.ensures c.has.ensures);
+      made = marks_more c.loop-i.invariant.made few _ (under_read _ _ _ _ _ _ _ c.chain_of-chain.ensures c.rows.ensures c.has.ensures);
     }
 
 pub returns : goal.returns

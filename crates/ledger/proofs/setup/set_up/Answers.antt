@@ -9,8 +9,8 @@ returns g c =
     let q = g.K.Kind.answers in
     let laws = g.met.K.Kind in
     let s = state c.args.head c.args.banks c.args.grants in
-    let due = c.in-ok-check-lengths.ensures in
-    let left = set_up_lem q c.args.endowment s _ _ _ c.empty.ensures c.clear-banks.ensures c.clear-grants.ensures in
+    let due = c.in_ok-check_lengths.ensures in
+    let left = set_up_lem q c.args.endowment s _ _ _ c.empty.ensures c.clear_banks.ensures c.clear_grants.ensures in
     record {
       meets = accepts q _ s _ _ _ due (record { answered = refl; left = left });
       books = kept_by (record {

@@ -6,16 +6,16 @@ use Rattle.ledger.proofs.Climbs.{rows_within}
 use Rattle.ledger.proofs.Once.{rows_once}
 use Rattle.ledger.proofs.trade.buy.Goals as goal
 
-pub offset-bounds-grants-row : goal.offset-bounds-grants-row
-offset-bounds-grants-row g c = scaled_Fits _ _ _ c.in-ok-chain.ensures.within.0 c.well-formed.1.1.0.1
+pub offset_bounds-grants-row : goal.offset_bounds-grants-row
+offset_bounds-grants-row g c = scaled_Fits _ _ _ c.in_ok-chain.ensures.within.0 c.well-formed.1.1.0.1
 
-pub join-uses-requires : goal.join-uses-requires
-join-uses-requires g c = record {
-  within = rows_within _ _ _ _ _ c.in-ok-chain.ensures.rows c.rows.ensures;
-  once = rows_once g.K.Kind.answers.empty _ _ _ _ c.in-ok-chain.ensures.rows c.rows.ensures;
+pub join_uses-requires : goal.join_uses-requires
+join_uses-requires g c = record {
+  within = rows_within _ _ _ _ _ c.in_ok-chain.ensures.rows c.rows.ensures;
+  once = rows_once g.K.Kind.answers.empty _ _ _ _ c.in_ok-chain.ensures.rows c.rows.ensures;
 }
 
 pub returns : goal.returns
 returns g c =
-    bought g.K.Kind.answers (state c.args.head c.args.banks c.args.grants) _ _ _ _ _ c.in-ok-chain.ensures.due
-    (c.rows.ensures ∙ c.in-ok-chain.ensures.rows.are) c.join-uses.ensures
+    bought g.K.Kind.answers (state c.args.head c.args.banks c.args.grants) _ _ _ _ _ c.in_ok-chain.ensures.due
+    (c.rows.ensures ∙ c.in_ok-chain.ensures.rows.are) c.join_uses.ensures

@@ -4,8 +4,8 @@ use Rattle.sets.proofs.Bits.{mixed_bits, mixed_sound}
 use Rattle.frames.specs.FrameFacts.{frame_sets}
 use Rattle.frames.proofs.frames.Frames.difference.Goals as goal
 
-pub invariant-of-result : goal.invariant-of-result
-invariant-of-result c = (
+pub invariant_of-result : goal.invariant_of-result
+invariant_of-result c = (
   mixed_sound 32 c.args.self.now.bytes c.args.other.now.bytes c.loop-i.bytes
       c.args.self.now.sound c.args.other.now.sound c.loop-i.invariant.0
       (λ i h. c.loop-i.invariant.1 i (omega arith)),

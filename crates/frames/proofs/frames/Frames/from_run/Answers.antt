@@ -16,15 +16,15 @@ loop-i-preserved c =
     let f : ℕ → ℕ = λ k. bit_xor (mask (c.args.to - k * 8)) (mask (c.args.from - k * 8)) in
     let bs = c.loop-i.bytes in
     let i = c.loop-i.i in
-    let to_bits : c.byte-below.result ≡ mask (c.args.to - i * 8) = search rules in
-    let from_bits : c.byte-below-in-loop-i.result ≡ mask (c.args.from - i * 8) = search rules in (
+    let to_bits : c.byte_below.result ≡ mask (c.args.to - i * 8) = search rules in
+    let from_bits : c.byte_below-in-loop-i.result ≡ mask (c.args.from - i * 8) = search rules in (
       simp length-set c.loop-i.invariant.0,
       subst (λ v. (k : ℕ) → k < i + 1 → get_or (set bs i v) k 0 ≡ f k) (sym (ap₂ bit_xor to_bits from_bits))
           (fill_by_more f bs i 0 (omega arith) c.loop-i.invariant.1),
     )
 
-pub invariant-of-result : goal.invariant-of-result
-invariant-of-result c = (run_sound 32 c.args.from c.args.to c.loop-i.bytes (λ i h. c.loop-i.invariant.1 i (omega arith)) c.loop-i.invariant.0, tt)
+pub invariant_of-result : goal.invariant_of-result
+invariant_of-result c = (run_sound 32 c.args.from c.args.to c.loop-i.bytes (λ i h. c.loop-i.invariant.1 i (omega arith)) c.loop-i.invariant.0, tt)
 
 pub returns : goal.returns
 returns c =

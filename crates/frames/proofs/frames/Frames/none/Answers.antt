@@ -4,8 +4,8 @@ use Rattle.sets.specs.Bytes.{binary, bytes_of}
 use Rattle.frames.specs.FrameFacts.{same_data}
 use Rattle.frames.proofs.frames.Frames.none.Goals as goal
 
-pub invariant-of-result : goal.invariant-of-result
-invariant-of-result c = ((refl, λ i h. subst (λ v. v < 256) (sym (get_or-replicate 32 i 0 0 h)) (omega arith)), tt)
+pub invariant_of-result : goal.invariant_of-result
+invariant_of-result c = ((refl, λ i h. subst (λ v. v < 256) (sym (get_or-replicate 32 i 0 0 h)) (omega arith)), tt)
 
 pub returns : goal.returns
 unfolding bytes_of binary

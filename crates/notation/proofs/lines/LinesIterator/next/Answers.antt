@@ -4,14 +4,14 @@ use Rattle.notation.proofs.LineCutting.{no_line, first-line}
 use Rattle.notation.proofs.lines.LinesIterator.next.Goals as goal
 use Rattle.std.proofs.iter.Next.{firm}
 
-pub returns-then-is-empty : goal.returns-then-is-empty
-returns-then-is-empty c = search (rules, no_line)
+pub returns-then-is_empty : goal.returns-then-is_empty
+returns-then-is_empty c = search (rules, no_line)
 
 pub returns : goal.returns
 returns c =
-    let some = false-eqb _ 0 c.if-is-empty.ensures in
+    let some = false-eqb _ 0 c.if-is_empty.ensures in
     let step =
-    first-line c.args.self.now.rest.now c.first-piece.result.0.now c.first-piece.result.1 _ c.unwrap-or-self.result
-    (omega arith) (search rules) (search rules) c.unwrap-or-self.ensures
+    first-line c.args.self.now.rest.now c.first_piece.result.0.now c.first_piece.result.1 _ c.unwrap_or-self.result
+    (omega arith) (search rules) (search rules) c.unwrap_or-self.ensures
     in
     record { steps = step; goes = firm ((tt, tt, omega (arith, ap length step))) (λ h. search rules) }

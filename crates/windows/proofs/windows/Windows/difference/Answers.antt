@@ -56,8 +56,8 @@ module _ (x y : Windows) (rs : List Run) (i j n a b : ℕ) (inv : Mixed window_p
 pub walk-init : goal.walk-init
 walk-init c = mixed_none window_places _ _ (replicate window_places blank) refl (place-blank window_places)
 
-pub invariant-of-result : goal.invariant-of-result
-invariant-of-result c =
+pub invariant_of-result : goal.invariant_of-result
+invariant_of-result c =
     let x = c.args.self.now in
     let y = c.args.other.now in
     let va = c.end-a.ensures.value in
@@ -83,13 +83,13 @@ walk-preserved-then-cancel c =
     both-turn c.args.self.now c.args.other.now c.walk.runs c.walk.i c.walk.j c.walk.n c.end-a.result c.end-b.result
     c.walk.invariant c.end-a.ensures.value c.end-b.ensures.value (omega (arith, c.else-a-gt-SECONDS.either, eqb-true _ _ (sym c.if-cancel.ensures))) (eqb-true _ _ (sym c.if-cancel.ensures))
 
-pub put-end-requires : goal.put-end-requires
-put-end-requires c =
+pub put_end-requires : goal.put_end-requires
+put_end-requires c =
     left_room c.args.self.now c.args.other.now c.walk.runs c.walk.i c.walk.j c.walk.n c.end-a.result c.end-b.result
     c.walk.invariant c.end-a.ensures.value c.end-b.ensures.value (omega arith) c.if-a-b.true
 
-pub overflow-add-n : goal.overflow-add-n
-overflow-add-n c =
+pub overflow_add-n : goal.overflow_add-n
+overflow_add-n c =
     let h = left_room c.args.self.now c.args.other.now c.walk.runs c.walk.i c.walk.j c.walk.n c.end-a.result c.end-b.result
     c.walk.invariant c.end-a.ensures.value c.end-b.ensures.value (omega arith) c.if-a-b.true in
     omega arith
@@ -97,16 +97,16 @@ overflow-add-n c =
 pub walk-preserved-then-a-b : goal.walk-preserved-then-a-b
 walk-preserved-then-a-b c =
     left-turn c.args.self.now c.args.other.now c.walk.runs c.walk.i c.walk.j c.walk.n c.end-a.result c.end-b.result
-    c.walk.invariant c.end-a.ensures.value c.end-b.ensures.value c.put-end.new.runs c.put-end.array_long
-    (omega arith) c.if-a-b.true c.put-end.ensures.here c.put-end.ensures.others
+    c.walk.invariant c.end-a.ensures.value c.end-b.ensures.value c.put_end.new.runs c.put_end.array_long
+    (omega arith) c.if-a-b.true c.put_end.ensures.here c.put_end.ensures.others
 
-pub put-end-requires-else-a-b : goal.put-end-requires-else-a-b
-put-end-requires-else-a-b c =
+pub put_end-requires-else-a-b : goal.put_end-requires-else-a-b
+put_end-requires-else-a-b c =
     right_room c.args.self.now c.args.other.now c.walk.runs c.walk.i c.walk.j c.walk.n c.end-a.result c.end-b.result
     c.walk.invariant c.end-a.ensures.value c.end-b.ensures.value (omega (arith, c.else-a-gt-SECONDS.either)) (omega (arith, eqb-false _ _ (sym c.if-cancel.ensures)))
 
-pub overflow-add-n-else-a-b : goal.overflow-add-n-else-a-b
-overflow-add-n-else-a-b c =
+pub overflow_add-n-else-a-b : goal.overflow_add-n-else-a-b
+overflow_add-n-else-a-b c =
     let h = right_room c.args.self.now c.args.other.now c.walk.runs c.walk.i c.walk.j c.walk.n c.end-a.result c.end-b.result
     c.walk.invariant c.end-a.ensures.value c.end-b.ensures.value (omega (arith, c.else-a-gt-SECONDS.either)) (omega (arith, eqb-false _ _ (sym c.if-cancel.ensures))) in
     omega arith
@@ -114,5 +114,5 @@ overflow-add-n-else-a-b c =
 pub walk-preserved : goal.walk-preserved
 walk-preserved c =
     right_turn c.args.self.now c.args.other.now c.walk.runs c.walk.i c.walk.j c.walk.n c.end-a.result c.end-b.result
-    c.walk.invariant c.end-a.ensures.value c.end-b.ensures.value c.put-end-else-a-b.new.runs c.put-end-else-a-b.array_long
-    (omega (arith, c.else-a-gt-SECONDS.either)) (omega (arith, eqb-false _ _ (sym c.if-cancel.ensures))) c.put-end-else-a-b.ensures.here c.put-end-else-a-b.ensures.others
+    c.walk.invariant c.end-a.ensures.value c.end-b.ensures.value c.put_end-else-a-b.new.runs c.put_end-else-a-b.array_long
+    (omega (arith, c.else-a-gt-SECONDS.either)) (omega (arith, eqb-false _ _ (sym c.if-cancel.ensures))) c.put_end-else-a-b.ensures.here c.put_end-else-a-b.ensures.others

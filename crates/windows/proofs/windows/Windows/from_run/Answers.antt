@@ -6,8 +6,8 @@ use Rattle.sets.proofs.Scans.{within-le, is_run_when, runs_ordered, runs_covered
 use Rattle.windows.specs.WindowFacts.{window_sets}
 use Rattle.windows.proofs.windows.Windows.from_run.Goals as goal
 
-pub invariant-of-result : goal.invariant-of-result
-invariant-of-result c =
+pub invariant_of-result : goal.invariant_of-result
+invariant_of-result c =
     let from = c.args.from in
     let to = c.args.to in
     (runs_ordered 128 0 63 (run from to ∷ []) (omega arith, omega arith, omega arith, tt), tt)

@@ -3,9 +3,9 @@ use Rattle.sets.specs.Runs.{all_blank, ordered, runs_from, in_places}
 use Rattle.windows.specs.WindowFacts.{same_data}
 use Rattle.windows.proofs.windows.Windows.none.Goals as goal
 
-pub invariant-of-result : goal.invariant-of-result
+pub invariant_of-result : goal.invariant_of-result
 unfolding ordered all_blank
-invariant-of-result c = (refl, tt)
+invariant_of-result c = (refl, tt)
 
 pub returns : goal.returns
 unfolding runs_from in_places

@@ -14,14 +14,14 @@ equal : (x y : Windows)
 equal x y each =
     (λ _. same_data x y (same_places x.runs y.runs ((tidy_of x).0 ∙ sym (tidy_of y).0) (λ q l. each q (omega (arith, (tidy_of x).0)))), λ _. refl)
 
-pub returns-then-not-same-run : goal.returns-then-not-same-run
-returns-then-not-same-run c =
+pub returns-then-not-same_run : goal.returns-then-not-same_run
+returns-then-not-same_run c =
     let x = c.args.self.now in
     let y = c.args.other.now in
     let p = c.loop-p.p in
     let differ : Decides false (x ≡ y) = (
       λ e. absurd (false≢true e),
-      λ e. c.if-not-same-run.ensures.1 (ap (λ z. (place z.runs p).from) e, ap (λ z. (place z.runs p).to) e),
+      λ e. c.if-not-same_run.ensures.1 (ap (λ z. (place z.runs p).from) e, ap (λ z. (place z.runs p).to) e),
     ) in
     (differ, same_members window_sets x y false differ)
 
@@ -31,7 +31,7 @@ returns-then-x-eq0 c =
     let y = c.args.other.now in
     let p = c.loop-p.p in
     let zero-x = c.if-x-eq0.true in
-    let zero-y = sym (c.if-not-same-run.ensures.0 refl).1 ∙ zero-x in
+    let zero-y = sym (c.if-not-same_run.ensures.0 refl).1 ∙ zero-x in
     let same = equal x y (λ q l. ⊎_elim
     (λ (lt : q < p). c.loop-p.invariant q lt)
     (λ (ge : p ≤ q).
