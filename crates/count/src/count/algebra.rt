@@ -93,8 +93,8 @@ impl Kind for Count {
     }
 
     fn same(&self, other: &Self) -> bool
-        ensures decides { Decides result (self.now ≡ other.now) }
-        ensures decides_2 { Decides result (self.now.value ≡ other.now.value) }
+        ensures equal { Decides result (self.now ≡ other.now) }
+        ensures by_value { Decides result (self.now.value ≡ other.now.value) }
     {
         self.same_value(other)
     }

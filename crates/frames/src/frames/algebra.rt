@@ -89,8 +89,8 @@ impl Kind for Frames {
     }
 
     fn same(&self, other: &Self) -> bool
-        ensures decides { Decides result (self.now ≡ other.now) }
-        ensures decides_2 { Decides result (SameMembers frame_count frame self.now other.now) }
+        ensures equal { Decides result (self.now ≡ other.now) }
+        ensures by_members { Decides result (SameMembers frame_count frame self.now other.now) }
     {
         self.bytes == other.bytes
     }

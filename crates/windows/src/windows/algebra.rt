@@ -64,8 +64,8 @@ impl Kind for Windows {
     }
 
     fn same(&self, other: &Self) -> bool
-        ensures decides { Decides result (self.now ≡ other.now) }
-        ensures decides_2 { Decides result (SameMembers second_count window self.now other.now) }
+        ensures equal { Decides result (self.now ≡ other.now) }
+        ensures by_members { Decides result (SameMembers second_count window self.now other.now) }
     {
         for p in 0..PLACES {
             let x = self.runs[p];

@@ -5,12 +5,11 @@ use Rattle.frames.specs.FrameFacts.{frame_sets}
 use Rattle.frames.proofs.frames.Frames.difference.Goals as goal
 
 pub invariant_of-result : goal.invariant_of-result
-invariant_of-result c = (
-  mixed_sound 32 c.args.self.now.bytes c.args.other.now.bytes c.loop-i.bytes
+invariant_of-result c = record {
+  sound = mixed_sound 32 c.args.self.now.bytes c.args.other.now.bytes c.loop-i.bytes
       c.args.self.now.sound c.args.other.now.sound c.loop-i.invariant.0
-      (λ i h. c.loop-i.invariant.1 i (omega arith)),
-  tt,
-)
+      (λ i h. c.loop-i.invariant.1 i (omega arith));
+}
 
 pub returns : goal.returns
 returns c =

@@ -24,7 +24,7 @@ loop-i-preserved c =
     )
 
 pub invariant_of-result : goal.invariant_of-result
-invariant_of-result c = (run_sound 32 c.args.from c.args.to c.loop-i.bytes (λ i h. c.loop-i.invariant.1 i (omega arith)) c.loop-i.invariant.0, tt)
+invariant_of-result c = record { sound = run_sound 32 c.args.from c.args.to c.loop-i.bytes (λ i h. c.loop-i.invariant.1 i (omega arith)) c.loop-i.invariant.0 }
 
 pub returns : goal.returns
 returns c =

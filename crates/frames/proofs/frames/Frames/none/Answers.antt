@@ -5,7 +5,7 @@ use Rattle.frames.specs.FrameFacts.{same_data}
 use Rattle.frames.proofs.frames.Frames.none.Goals as goal
 
 pub invariant_of-result : goal.invariant_of-result
-invariant_of-result c = ((refl, λ i h. subst (λ v. v < 256) (sym (get_or-replicate 32 i 0 0 h)) (omega arith)), tt)
+invariant_of-result c = record { sound = (refl, λ i h. subst (λ v. v < 256) (sym (get_or-replicate 32 i 0 0 h)) (omega arith)) }
 
 pub returns : goal.returns
 unfolding bytes_of binary

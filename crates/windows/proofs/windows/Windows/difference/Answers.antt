@@ -61,12 +61,11 @@ invariant_of-result c =
     let x = c.args.self.now in
     let y = c.args.other.now in
     let va = c.end-a.ensures.value in
-    let vb = c.end-b.ensures.value in (
-      places_tidy second_count window_places c.walk.runs
+    let vb = c.end-b.ensures.value in record {
+      sound = places_tidy second_count window_places c.walk.runs
           (mixed_tidy second_count window_places (omega arith) x.runs y.runs c.walk.runs (tidy_of x) (tidy_of y) c.walk.i c.walk.j c.walk.n c.walk.invariant
-          (omega arith) (omega arith)),
-      tt,
-    )
+          (omega arith) (omega arith));
+    }
 
 pub returns-then-b-gt-SECONDS : goal.returns-then-b-gt-SECONDS
 returns-then-b-gt-SECONDS c =

@@ -10,7 +10,7 @@ pub invariant_of-result : goal.invariant_of-result
 invariant_of-result c =
     let from = c.args.from in
     let to = c.args.to in
-    (runs_ordered 128 0 63 (run from to ∷ []) (omega arith, omega arith, omega arith, tt), tt)
+    record { sound = runs_ordered 128 0 63 (run from to ∷ []) (omega arith, omega arith, omega arith, tt) }
 
 -- one run covers its own numbers
 one_run : (from to k : ℕ) → covered (run from to ∷ []) k ≡ within from to k

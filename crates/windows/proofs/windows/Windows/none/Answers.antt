@@ -5,7 +5,7 @@ use Rattle.windows.proofs.windows.Windows.none.Goals as goal
 
 pub invariant_of-result : goal.invariant_of-result
 unfolding ordered all_blank
-invariant_of-result c = (refl, tt)
+invariant_of-result c = record { sound = refl }
 
 pub returns : goal.returns
 unfolding runs_from in_places

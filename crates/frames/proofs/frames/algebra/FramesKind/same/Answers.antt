@@ -11,4 +11,4 @@ returns c =
     let y = c.args.other.now in
     let d = slice_eq-Decides Decides-eqb _ _ _ c.eq.ensures in
     let equal : Decides c.eq.result (x ≡ y) = (λ e. same_data x y (d.0 e), λ e. d.1 (ap (λ z. z.bytes) e)) in
-    (record { decides = equal; decides_2 = same_members frame_sets x y _ equal })
+    (record { equal = equal; by_members = same_members frame_sets x y _ equal })

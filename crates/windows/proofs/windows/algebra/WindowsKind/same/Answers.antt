@@ -23,7 +23,7 @@ returns-then-not-same_run c =
       λ e. absurd (false≢true e),
       λ e. c.if-not-same_run.ensures.1 (ap (λ z. (place z.runs p).from) e, ap (λ z. (place z.runs p).to) e),
     ) in
-    (differ, same_members window_sets x y false differ)
+    record { equal = differ; by_members = same_members window_sets x y false differ }
 
 pub returns-then-x-eq0 : goal.returns-then-x-eq0
 returns-then-x-eq0 c =
@@ -39,11 +39,11 @@ returns-then-x-eq0 c =
     let by = blank-after second_count y.runs (tidy_of y).1 p zero-y q ge in
     (bx.1 ∙ sym by.1, bx.0 ∙ sym by.0))
     (cases_lt q p)) in
-    (same, same_members window_sets x y true same)
+    record { equal = same; by_members = same_members window_sets x y true same }
 
 pub returns : goal.returns
 returns c =
     let x = c.args.self.now in
     let y = c.args.other.now in
     let same = equal x y (λ q l. c.loop-p.invariant q (omega arith)) in
-    (same, same_members window_sets x y true same)
+    record { equal = same; by_members = same_members window_sets x y true same }
