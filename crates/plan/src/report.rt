@@ -15,18 +15,24 @@ use kind::{AmountRefusal, Kind};
 use kinds::{EngineAmount, engine_amount};
 use notation::Lines;
 use stages::{Stage, read_stage};
+use std::alloc::AllocError;
 use std::fmt;
 use windows::{SECONDS, Windows};
 
 // A line that cannot be read.
-fn write_unread(out: &mut String, number: u64) -> fmt::Result
+fn write_unread(out: &mut String, number: u64) -> Result<(), AllocError>
     ensures { OnOk result (string_bytes out.new ≡ string_bytes out.old ++ unread_text number) }
 {
     writeln!(out, "line {number}: cannot be read")
 }
 
 // A stage whose amount is refused.
-fn write_refused(out: &mut String, number: u64, name: &str, refusal: AmountRefusal) -> fmt::Result
+fn write_refused(
+    out: &mut String,
+    number: u64,
+    name: &str,
+    refusal: AmountRefusal,
+) -> Result<(), AllocError>
     ensures { OnOk result (string_bytes out.new ≡ string_bytes out.old ++ refused_text number name.now refusal) }
 {
     let refusal = RefusalWords(refusal);
@@ -40,7 +46,7 @@ fn write_judged(
     name: &str,
     amount: &EngineAmount,
     verdict: Verdict,
-) -> fmt::Result
+) -> Result<(), AllocError>
     ensures { OnOk result (string_bytes out.new ≡ string_bytes out.old ++ judged_text number name.now amount.now verdict) }
 {
     let words = AmountWords(amount);
@@ -71,14 +77,14 @@ fn left_of_cycle(held: &EngineAmount) -> EngineAmount
     whole_cycle().remainder(held)
 }
 
-fn write_held(out: &mut String, held: &EngineAmount) -> fmt::Result
+fn write_held(out: &mut String, held: &EngineAmount) -> Result<(), AllocError>
     ensures { OnOk result (string_bytes out.new ≡ string_bytes out.old ++ held_text held.now) }
 {
     let words = AmountWords(held);
     writeln!(out, "held: {words}")
 }
 
-fn write_left(out: &mut String, left: &EngineAmount) -> fmt::Result
+fn write_left(out: &mut String, left: &EngineAmount) -> Result<(), AllocError>
     ensures { OnOk result (string_bytes out.new ≡ string_bytes out.old ++ left_text left.now) }
 {
     let words = AmountWords(left);
@@ -86,7 +92,7 @@ fn write_left(out: &mut String, left: &EngineAmount) -> fmt::Result
 }
 
 // What is held in the end, and what of a full cycle is left.
-fn write_end(out: &mut String, held: &EngineAmount) -> fmt::Result
+fn write_end(out: &mut String, held: &EngineAmount) -> Result<(), AllocError>
     ensures { OnOk result (string_bytes out.new ≡ string_bytes out.old ++ end_text held.now) }
 {
     write_held(out, held)?;
@@ -95,7 +101,12 @@ fn write_end(out: &mut String, held: &EngineAmount) -> fmt::Result
 }
 
 // Adds a stage, if its amount is one and fits, and tells what came of it.
-fn take_stage(out: &mut String, number: u64, stage: &Stage, held: &mut EngineAmount) -> fmt::Result
+fn take_stage(
+    out: &mut String,
+    number: u64,
+    stage: &Stage,
+    held: &mut EngineAmount,
+) -> Result<(), AllocError>
     ensures text { OnOk result (string_bytes out.new ≡ string_bytes out.old ++ amount_line number held.old stage.now.name.now (judged stage.now.takes)) }
     ensures held { held.new ≡ held_then held.old (judged stage.now.takes) }
 {
@@ -109,7 +120,12 @@ fn take_stage(out: &mut String, number: u64, stage: &Stage, held: &mut EngineAmo
 }
 
 // Takes one line.
-fn take_line(out: &mut String, number: u64, line: &[u8], held: &mut EngineAmount) -> fmt::Result
+fn take_line(
+    out: &mut String,
+    number: u64,
+    line: &[u8],
+    held: &mut EngineAmount,
+) -> Result<(), AllocError>
     ensures text { OnOk result (string_bytes out.new ≡ string_bytes out.old ++ line_text number held.old (stage line.now)) }
     ensures held { held.new ≡ held_line held.old (stage line.now) }
 {
@@ -130,5 +146,6 @@ pub fn write_report(out: &mut String, input: &[u8]) -> fmt::Result
         take_line(out, number, line, &mut held)?;
         number += 1;
     }
-    write_end(out, &held)
+    write_end(out, &held)?;
+    Ok(())
 }
