@@ -1,6 +1,5 @@
 -- Where each live bank has a whole chain, the banks that have none are those that are not live.
 use Rattle.std.proofs.Common.{◌≡◌, ℕ, zero, suc, ◌+◌, ◌<◌, Bool, true, false, cond, not, ◌&&◌, List, [], ◌∷◌, length, get_or, Some, None, sym, refl, ap, ◌∙◌, subst, add-zero, zero-add, arith}
-use Rattle.std.proofs.lemmas.Bool.{both_ways}
 use Rattle.kind.specs.Algebra.{Answers}
 use Rattle.tables.specs.declared.rows.Bank.{Bank}
 use Rattle.tables.specs.declared.rows.Grant.{Grant}

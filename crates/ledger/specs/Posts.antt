@@ -1,6 +1,5 @@
 -- How a call's contract reads off the rule of the call. Assumes nothing.
 use Rattle.std.specs.Prelude.{◌≡◌, ℕ, ◌≤◌, Bool, false, List, length, take, Result, slice_index_or}
-use Rattle.std.specs.Borrow.{Bor}
 use Rattle.std.specs.Option.{unwrap_or}
 use Rattle.tables.specs.declared.rows.Bank.{Bank}
 use Rattle.tables.specs.declared.rows.Grant.{Grant}
@@ -10,9 +9,9 @@ use Rattle.tables.specs.declared.refusal.Refusal.{Refusal}
 use Rattle.tables.specs.Tables.{State}
 use Rattle.rules.specs.Rules.{Outcome}
 
--- the ledger that lies in a lent head and two lent tables
-abbrev pub state : {A : Type 0} → Bor Head → Bor (List (Bank A)) → Bor (List (Grant A)) → State A
-state head banks grants = record { last = head.now.last_serial; banks = banks.now; grants = grants.now }
+-- the ledger that lies in a head and two tables
+abbrev pub state : {A : Type 0} → Head → List (Bank A) → List (Grant A) → State A
+state head banks grants = record { last = head.last_serial; banks = banks; grants = grants }
 
 -- a call with the answer r that leaves the ledger as s came to what its rule says
 pub record Meets {A : Type 0} (o : Outcome A) (r : Result ℕ Refusal) (s : State A) : Type 0 where

@@ -16,7 +16,7 @@ pub(crate) fn check_lengths<K: Kind>(
     banks: &[Bank<K>],
     grants: &[Grant<K>],
 ) -> Result<(), Refusal>
-    ensures { result_err result ≡ misfit K.Kind.answers (state head.entry banks.entry grants.entry) }
+    ensures { result_err result ≡ misfit K.Kind.answers (state head.now banks.now grants.now) }
 {
     if banks.len() < 1 || banks.len() > 64 {
         return Err(Refusal::TableLength(Table::Banks));
@@ -34,7 +34,7 @@ pub(crate) fn check_open<K: Kind>(
     parent: u32,
     child: u32,
 ) -> Result<(), Refusal>
-    ensures due { result_err result ≡ open_refusal K.Kind.answers (state head.entry banks.entry grants.entry) parent child }
+    ensures due { result_err result ≡ open_refusal K.Kind.answers (state head.now banks.now grants.now) parent child }
     ensures within { OnOk result (child < length banks.now) }
 {
     check_lengths(head, banks, grants)?;
@@ -76,7 +76,7 @@ pub(crate) fn check_buy<K: Kind>(
     row: u32,
     amount: &K,
 ) -> Result<Chain, Refusal>
-    ensures due { result_err result ≡ buy_refusal K.Kind.answers (state head.entry banks.entry grants.entry) bank row amount.now }
+    ensures due { result_err result ≡ buy_refusal K.Kind.answers (state head.now banks.now grants.now) bank row amount.now }
     ensures rows { IfOk result (λ c. Rows c (chain K.Kind.answers.empty banks.now bank)) }
     ensures within { OnOk result ((row < length grants.now) × (head.now.last_serial < 4000000000)) }
 {
@@ -116,7 +116,7 @@ pub(crate) fn check_back<K: Kind>(
     row: u32,
     serial: u32,
 ) -> Result<Chain, Refusal>
-    ensures due { result_err result ≡ back_refusal K.Kind.answers (state head.entry banks.entry grants.entry) row serial }
+    ensures due { result_err result ≡ back_refusal K.Kind.answers (state head.now banks.now grants.now) row serial }
     ensures rows { IfOk result (λ c. Rows c (chain K.Kind.answers.empty banks.now (grant_at K.Kind.answers.empty grants.now row).bank)) }
     ensures within { OnOk result (row < length grants.now) }
 {
@@ -167,7 +167,7 @@ pub(crate) fn check_closing<K: Kind>(
     grants: &[Grant<K>],
     bank: u32,
 ) -> Result<[bool; 64], Refusal>
-    ensures due { result_err result ≡ closing_refusal K.Kind.answers (state head.entry banks.entry grants.entry) bank }
+    ensures due { result_err result ≡ closing_refusal K.Kind.answers (state head.now banks.now grants.now) bank }
     ensures marks { IfOk result (λ m. Marked m (under K.Kind.answers.empty banks.now bank)) }
     ensures within { OnOk result ((bank < length banks.now) × (length grants.now ≤ 1024)) }
 {
@@ -194,7 +194,7 @@ pub(crate) fn check_reclaim<K: Kind>(
     grants: &[Grant<K>],
     bank: u32,
 ) -> Result<Branch, Refusal>
-    ensures due { result_err result ≡ reclaim_refusal K.Kind.answers (state head.entry banks.entry grants.entry) bank }
+    ensures due { result_err result ≡ reclaim_refusal K.Kind.answers (state head.now banks.now grants.now) bank }
     ensures rows { IfOk result (λ b. Rows b.chain (chain K.Kind.answers.empty banks.now bank)) }
     ensures marks { IfOk result (λ b. Marked b.marks (under K.Kind.answers.empty banks.now bank)) }
     ensures within { OnOk result ((bank < length banks.now) × (length grants.now ≤ 1024)) }
@@ -219,7 +219,7 @@ pub(crate) fn check_stock<K: Kind>(
     banks: &[Bank<K>],
     grants: &[Grant<K>],
 ) -> Result<(), Refusal>
-    ensures { result_err result ≡ stock_refusal K.Kind.answers (state head.entry banks.entry grants.entry) }
+    ensures { result_err result ≡ stock_refusal K.Kind.answers (state head.now banks.now grants.now) }
 {
     check_lengths(head, banks, grants)?;
     if !is_sound(&banks[0]) {

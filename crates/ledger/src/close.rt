@@ -17,8 +17,8 @@ pub fn reclaim<K: Kind>(
     bank: u32,
     place: &mut K,
 ) -> Result<u32, Refusal>
-    ensures meets { Meets (reclaims K.Kind.answers (state head.entry banks.entry grants.entry) bank) result (state head.exit banks.exit grants.exit) }
-    ensures places { Places (reclaims K.Kind.answers (state head.entry banks.entry grants.entry) bank) place.old place.new }
+    ensures meets { Meets (reclaims K.Kind.answers (state head.old banks.old grants.old) bank) result (state head.new banks.new grants.new) }
+    ensures places { Places (reclaims K.Kind.answers (state head.old banks.old grants.old) bank) place.old place.new }
 {
     let branch = check_reclaim(head, banks, grants, bank)?;
     let used = banks[bank as usize].used;
@@ -36,7 +36,7 @@ pub fn hand_up<K: Kind>(
     grants: &mut [Grant<K>],
     bank: u32,
 ) -> Result<u32, Refusal>
-    ensures { Meets (hands_up K.Kind.answers (state head.entry banks.entry grants.entry) bank) result (state head.exit banks.exit grants.exit) }
+    ensures { Meets (hands_up K.Kind.answers (state head.old banks.old grants.old) bank) result (state head.new banks.new grants.new) }
 {
     check_closing(head, banks, grants, bank)?;
     let parent = banks[bank as usize].parent;

@@ -15,8 +15,8 @@ pub fn set_up<K: Kind>(
     grants: &mut [Grant<K>],
     endowment: K,
 ) -> Result<u32, Refusal>
-    ensures meets { Meets (sets_up K.Kind.answers endowment (state head.entry banks.entry grants.entry)) result (state head.exit banks.exit grants.exit) }
-    ensures books { KeepsBooks K.Kind.makes K.Kind.answers endowment result (state head.exit banks.exit grants.exit) }
+    ensures meets { Meets (sets_up K.Kind.answers endowment (state head.old banks.old grants.old)) result (state head.new banks.new grants.new) }
+    ensures books { KeepsBooks K.Kind.makes K.Kind.answers endowment result (state head.new banks.new grants.new) }
 {
     check_lengths(head, banks, grants)?;
     clear_banks(banks);

@@ -16,7 +16,7 @@ pub fn open<K: Kind>(
     child: u32,
     limit: K,
 ) -> Result<u32, Refusal>
-    ensures { Meets (opens K.Kind.answers (state head.entry banks.entry grants.entry) parent child limit) result (state head.exit banks.exit grants.exit) }
+    ensures { Meets (opens K.Kind.answers (state head.old banks.old grants.old) parent child limit) result (state head.new banks.new grants.new) }
 {
     check_open(head, banks, grants, parent, child)?;
     banks[child as usize] = Bank {
@@ -37,7 +37,7 @@ pub fn buy<K: Kind>(
     row: u32,
     amount: K,
 ) -> Result<u32, Refusal>
-    ensures { Meets (buys K.Kind.answers (state head.entry banks.entry grants.entry) bank row amount) result (state head.exit banks.exit grants.exit) }
+    ensures { Meets (buys K.Kind.answers (state head.old banks.old grants.old) bank row amount) result (state head.new banks.new grants.new) }
 {
     let chain = check_buy(head, banks, grants, bank, row, &amount)?;
     join_uses(banks, chain.rows(), &amount);
@@ -60,7 +60,7 @@ pub fn give_back<K: Kind>(
     row: u32,
     serial: u32,
 ) -> Result<u32, Refusal>
-    ensures { Meets (backs K.Kind.answers (state head.entry banks.entry grants.entry) row serial) result (state head.exit banks.exit grants.exit) }
+    ensures { Meets (backs K.Kind.answers (state head.old banks.old grants.old) row serial) result (state head.new banks.new grants.new) }
 {
     let chain = check_back(head, banks, grants, row, serial)?;
     let at = row as usize;
@@ -76,8 +76,8 @@ pub fn stock<K: Kind>(
     grants: &[Grant<K>],
     place: &mut K,
 ) -> Result<u32, Refusal>
-    ensures meets { Meets (stocks K.Kind.answers (state head.entry banks.entry grants.entry)) result (state head.entry banks.entry grants.entry) }
-    ensures places { Places (stocks K.Kind.answers (state head.entry banks.entry grants.entry)) place.old place.new }
+    ensures meets { Meets (stocks K.Kind.answers (state head.now banks.now grants.now)) result (state head.now banks.now grants.now) }
+    ensures places { Places (stocks K.Kind.answers (state head.now banks.now grants.now)) place.old place.new }
 {
     check_stock(head, banks, grants)?;
     *place = banks[0].limit.remainder(&banks[0].used);

@@ -1,4 +1,4 @@
-use Rattle.std.proofs.Common.{◌<◌, sym, refl, ap, ◌∙◌, le_trans, arith}
+use Rattle.std.proofs.Common.{◌<◌, sym, refl, ap, le_trans, arith}
 use Rattle.std.proofs.lemmas.Bool.{and_from, and_left, and_right}
 use Rattle.tables.specs.declared.refusal.Refusal.TheVariants.{OutOfOrder}
 use Rattle.rules.specs.Rules.{refuse_at}

@@ -8,7 +8,7 @@ use Rattle.ledger.proofs.Once.{above_once}
 use Rattle.ledger.proofs.close.reclaim.Goals as goal
 
 pub offset_bounds-banks-bank : goal.offset_bounds-banks-bank
-offset_bounds-banks-bank g c = scaled_Fits _ _ _ c.in_ok-branch.ensures.within.0 c.well-formed.1.0.1
+offset_bounds-banks-bank g c = scaled_Fits _ _ _ c.in_ok-branch.ensures.within.0 c.well_formed.1.0.1
 
 pub take_from_uses-requires : goal.take_from_uses-requires
 take_from_uses-requires g c = record {
@@ -19,7 +19,7 @@ take_from_uses-requires g c = record {
 pub returns : goal.returns
 returns g c =
     let q = g.K.Kind.answers in
-    let s = state c.args.head c.args.banks c.args.grants in
+    let s = state c.args.head.now c.args.banks.now c.args.grants.now in
     let due = c.in_ok-branch.ensures.due in
     let within = c.in_ok-branch.ensures.within.0 in
     record {

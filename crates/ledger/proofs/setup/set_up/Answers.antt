@@ -8,7 +8,7 @@ pub returns : goal.returns
 returns g c =
     let q = g.K.Kind.answers in
     let laws = g.met.K.Kind in
-    let s = state c.args.head c.args.banks c.args.grants in
+    let s = state c.args.head.now c.args.banks.now c.args.grants.now in
     let due = c.in_ok-check_lengths.ensures in
     let left = set_up_lem q c.args.endowment s _ _ _ c.empty.ensures c.clear_banks.ensures c.clear_grants.ensures in
     record {

@@ -19,5 +19,5 @@ take_from_uses-requires g c = record {
 
 pub returns : goal.returns
 returns g c =
-    backed g.K.Kind.answers (state c.args.head c.args.banks c.args.grants) _ _ c.index-grants-at.result _ _ _ c.in_ok-chain.ensures.due
+    backed g.K.Kind.answers (state c.args.head.now c.args.banks.now c.args.grants.now) _ _ c.index-grants-at.result _ _ _ c.in_ok-chain.ensures.due
     c.in_ok-chain.ensures.within (c.rows.ensures ∙ c.in_ok-chain.ensures.rows.are) c.take_from_uses.ensures c.free.ensures

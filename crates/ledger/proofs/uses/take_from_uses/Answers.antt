@@ -6,13 +6,13 @@ pub loop-row-init : goal.loop-row-init
 loop-row-init g c = uses_start g.K.Kind.answers (λ u. g.K.Kind.answers.remainder u c.args.amount.now) _
 
 pub offset_bounds-banks-at : goal.offset_bounds-banks-at
-offset_bounds-banks-at g c = scaled_Fits _ _ _ (in_table g.K.Kind.answers _ _ _ _ _ c.loop-row.invariant c.requires.within c.loop-row-test.true) c.well-formed.0.1
+offset_bounds-banks-at g c = scaled_Fits _ _ _ (in_table g.K.Kind.answers _ _ _ _ _ c.loop-row.invariant c.requires.within c.loop-row-test.true) c.well_formed.0.1
 
 pub bounds-banks-at : goal.bounds-banks-at
 bounds-banks-at g c = in_reach g.K.Kind.answers _ _ _ _ _ c.loop-row.invariant c.requires.within c.loop-row-test.true
 
 pub offset_bounds-banks-at-in-loop-row : goal.offset_bounds-banks-at-in-loop-row
-offset_bounds-banks-at-in-loop-row g c = scaled_Fits _ _ _ (in_table g.K.Kind.answers _ _ _ _ _ c.loop-row.invariant c.requires.within c.loop-row-test.true) c.well-formed.0.1
+offset_bounds-banks-at-in-loop-row g c = scaled_Fits _ _ _ (in_table g.K.Kind.answers _ _ _ _ _ c.loop-row.invariant c.requires.within c.loop-row-test.true) c.well_formed.0.1
 
 pub bounds-banks-at-in-loop-row : goal.bounds-banks-at-in-loop-row
 bounds-banks-at-in-loop-row g c = in_reach g.K.Kind.answers _ _ _ _ _ c.loop-row.invariant c.requires.within c.loop-row-test.true
@@ -36,7 +36,7 @@ pub bounds-banks-at-in-loop-row-7 : goal.bounds-banks-at-in-loop-row-7
 bounds-banks-at-in-loop-row-7 g c = in_reach g.K.Kind.answers _ _ _ _ _ c.loop-row.invariant c.requires.within c.loop-row-test.true
 
 pub offset_bounds-banks-at-in-loop-row-2 : goal.offset_bounds-banks-at-in-loop-row-2
-offset_bounds-banks-at-in-loop-row-2 g c = scaled_Fits _ _ _ (in_table g.K.Kind.answers _ _ _ _ _ c.loop-row.invariant c.requires.within c.loop-row-test.true) c.well-formed.0.1
+offset_bounds-banks-at-in-loop-row-2 g c = scaled_Fits _ _ _ (in_table g.K.Kind.answers _ _ _ _ _ c.loop-row.invariant c.requires.within c.loop-row-test.true) c.well_formed.0.1
 
 pub loop-row-preserved : goal.loop-row-preserved
 loop-row-preserved g c =
