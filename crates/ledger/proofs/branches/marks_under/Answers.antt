@@ -1,6 +1,7 @@
 use Rattle.std.proofs.Common.{◌<◌, sym, refl, ap, le_trans, arith}
 use Rattle.std.proofs.lemmas.Bool.{and_from, and_left, and_right}
 use Rattle.tables.specs.declared.refusal.Refusal.TheVariants.{OutOfOrder}
+use Rattle.tables.specs.Tables.{under}
 use Rattle.rules.specs.Rules.{refuse_at}
 use Rattle.ledger.proofs.Climbs.{under_read, under_past, no_chain, a_chain}
 use Rattle.ledger.proofs.Marks.{marks_start, marks_more, marks_all}
@@ -28,7 +29,7 @@ loop-i-preserved g c =
         | else-banks-i-via-then-banks-i+else-chain-eq0 w ↦ and_right _ _ (a_chain _ _ c.chain_of-chain.ensures.counts w.if-chain-eq0.false)
         | else-banks-i-via-else-banks-i w ↦ and_left _ _ w.if-banks-i.false
       ]);
-      made = marks_more c.loop-i.invariant.made few _ (under_read _ _ _ _ _ _ _ c.chain_of-chain.ensures c.rows.ensures c.has.ensures);
+      made = marks_more {f = under g.K.Kind.answers.empty c.args.banks.now c.args.bank} c.loop-i.invariant.made few _ (under_read _ _ _ _ _ _ _ c.chain_of-chain.ensures c.rows.ensures c.has.ensures);
     }
 
 pub returns : goal.returns
@@ -37,5 +38,5 @@ returns g c =
     record {
       due = ap (λ x. refuse_at x OutOfOrder) none;
       whole = sym none;
-      marks = marks_all c.loop-i.invariant.made (λ b h. under_past _ _ _ b (le_trans c.loop-i-test.false h));
+      marks = marks_all {f = under g.K.Kind.answers.empty c.args.banks.now c.args.bank} c.loop-i.invariant.made (λ b h. under_past _ _ _ b (le_trans c.loop-i-test.false h));
     }

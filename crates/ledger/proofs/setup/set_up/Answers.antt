@@ -1,6 +1,7 @@
 use Rattle.std.proofs.Common.{refl}
 use Rattle.ledger.specs.Posts.{state}
 use Rattle.ledger.proofs.Outcomes.{accepts, set_up_lem}
+use Rattle.rules.specs.Rules.{misfit}
 use Rattle.rules.proofs.Theorem.{kept_by}
 use Rattle.ledger.proofs.setup.set_up.Goals as goal
 
@@ -12,7 +13,7 @@ returns g c =
     let due = c.in_ok-check_lengths.ensures in
     let left = set_up_lem q c.args.endowment s _ _ _ c.empty.ensures c.clear_banks.ensures c.clear_grants.ensures in
     record {
-      meets = accepts q _ s _ _ _ due (record { answered = refl; left = left });
+      meets = accepts q (misfit q s) s _ _ _ due (record { answered = refl; left = left });
       books = kept_by (record {
         functional = laws.functional;
         commutative = laws.commutative;
