@@ -1,8 +1,8 @@
--- The engine's bundle keeps the laws of a kind.
-use Rattle.count.specs.Counts.{Sums, count_answers}
-use Rattle.count.proofs.count.algebra.CountKind.TheImpl.Answers as count-laws
-use Rattle.rules.proofs.Laws.{Laws}
-use Rattle.kind.specs.Algebra.{Answers, Functional, Commutative, Associative, Cancellative, Part, Neutral, GivesJoin, TellsPart, GivesRemainder}
+-- The engine's bundle keeps the laws of a kind: what counts owe to that, so far.
+use Rattle.std.proofs.Common.{sym, ◌∙◌}
+use Rattle.count.specs.Counts.{Sums}
+use Rattle.count.specs.Same.{same}
+use Rattle.kind.specs.Algebra.{Functional}
 
 pub count_functional : Functional Sums
-count_functional = count-laws.functional-law
+count_functional x y z z' p q = same z z' (sym p ∙ q)
