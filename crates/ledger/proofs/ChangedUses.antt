@@ -1,6 +1,6 @@
 -- A walk up a chain that changes the use of each bank on it.
 use Rattle.std.proofs.Common.{◌≡◌, ℕ, zero, suc, ◌+◌, ◌<◌, ◌≤◌, Bool, true, false, cond, ◌||◌, eqb, List, [], ◌∷◌, ◌++◌, length, get_or, take, set, sym, refl, ap, ◌∙◌, subst, ap₂, ⊎_elim, arith}
-use Rattle.std.specs.List.{AllByRecursion as All}
+use Rattle.std.specs.List.{AllByRecursion}
 use Rattle.std.proofs.lemmas.List.{get_or_default, get_or-set_same, get_or-set_other, length-set, take_more, take_all, ext_get_or}
 use Rattle.std.proofs.ByRecursion.{All-get_or}
 use Rattle.std.proofs.lemmas.Bool.{cond-true, cond-false, cases_eq, eq-eqb, ne_eqb, or_left, or_right, true≢false}
@@ -51,7 +51,7 @@ module _ {A : Type 0} (q : Answers A) (f : A → A) (xs : List (Bank A)) where
     long : length ys ≡ length xs
     long = ap length so_far ∙ length_changed q f (take i rows) xs
 
-    module _ (within : All (λ x. x < length xs) rows) (l : i < length rows) where
+    module _ (within : AllByRecursion (λ x. x < length xs) rows) (l : i < length rows) where
       abbrev b : ℕ
       b = get_or rows i 0
 

@@ -1,6 +1,6 @@
 -- The climb from a row up its chain.
 use Rattle.std.proofs.Common.{◌≡◌, ℕ, zero, suc, ◌+◌, ◌-◌, ◌^◌, ◌<◌, ◌≤◌, Bool, true, false, cond, eqb, List, [], ◌∷◌, ◌++◌, length, take, drop, set, sym, refl, ap, ◌∙◌, subst, ⊎_elim, arith}
-use Rattle.std.specs.List.{AllByRecursion as All}
+use Rattle.std.specs.List.{AllByRecursion}
 use Rattle.std.proofs.lemmas.List.{take_more_set, length-set, length-take-le, drop-take, get_or_past}
 use Rattle.std.proofs.lemmas.Bool.{cond-false, ne_eqb, eqb-true, both_ways, cases_lt}
 use Rattle.tables.specs.declared.rows.Bank.{Bank}
@@ -46,7 +46,7 @@ above-drop (x ∷ xs) = refl
 pub above-take : (n : ℕ) (rows : List ℕ) → (n ≡ 0 → ⊥) → take (n - 1) (drop 1 rows) ≡ above (take n rows)
 above-take n rows ne = let more : n ≡ 1 + (n - 1) = omega arith in sym (above-drop (take n rows) ∙ ap (λ (k : ℕ). drop 1 (take k rows)) more ∙ drop-take 1 (n - 1) rows)
 
-all_above : (P : ℕ → Type 0) (xs : List ℕ) → All P xs → All P (above xs)
+all_above : (P : ℕ → Type 0) (xs : List ℕ) → AllByRecursion P xs → AllByRecursion P (above xs)
 all_above P [] h = tt
 all_above P (x ∷ xs) h = h.1
 
@@ -106,28 +106,28 @@ module _ {A : Type 0} (none : A) (banks : List (Bank A)) where
   pub live_within : (b : ℕ) → (bank_at none banks b).live ≡ true → b < length banks
   live_within b e = ⊎_elim (λ h. h) (λ h. absurd (both_ways (bank_at none banks b).live (ap (λ (r : Bank A). r.live) (get_or_past banks b (free_bank none) h)) e)) (cases_lt b (length banks))
 
-  within-under : (b : ℕ) (xs : List ℕ) → b < length banks → All (λ x. x < length banks) xs → All (λ x. x < length banks) (under_it b xs)
+  within-under : (b : ℕ) (xs : List ℕ) → b < length banks → AllByRecursion (λ x. x < length banks) xs → AllByRecursion (λ x. x < length banks) (under_it b xs)
   within-under b [] h a = tt
   within-under b (x ∷ xs) h a = (h, a)
 
-  within_cases : (b : ℕ) (xs : List ℕ) (l z : Bool) → (bank_at none banks b).live ≡ l → eqb b 0 ≡ z → All (λ x. x < length banks) xs → All (λ x. x < length banks) (cond l (cond z (0 ∷ []) (under_it b xs)) [])
+  within_cases : (b : ℕ) (xs : List ℕ) (l z : Bool) → (bank_at none banks b).live ≡ l → eqb b 0 ≡ z → AllByRecursion (λ x. x < length banks) xs → AllByRecursion (λ x. x < length banks) (cond l (cond z (0 ∷ []) (under_it b xs)) [])
   within_cases b xs false z el ez a = tt
   within_cases b xs true true el ez a = (subst (λ x. x < length banks) (eqb-true b 0 ez) (live_within b el), tt)
   within_cases b xs true false el ez a = within-under b xs (live_within b el) a
 
-  within_in : (n b : ℕ) → All (λ x. x < length banks) (chain_in none n banks b)
+  within_in : (n b : ℕ) → AllByRecursion (λ x. x < length banks) (chain_in none n banks b)
   within_in zero b = tt
   within_in (suc n) b = within_cases b _ _ _ refl refl (within_in n (bank_at none banks b).parent)
 
-  pub chain-within : (b : ℕ) → All (λ x. x < length banks) (chain none banks b)
+  pub chain-within : (b : ℕ) → AllByRecursion (λ x. x < length banks) (chain none banks b)
   unfolding chain
   chain-within b = within_in 16 b
 
-  pub rows_within : (b : ℕ) (c : Chain) (rows : List ℕ) → Rows c (chain none banks b) → rows ≡ rows_of c → All (λ x. x < length banks) rows
-  rows_within b c rows h e = subst (All (λ x. x < length banks)) (sym (e ∙ h.are)) (chain-within b)
+  pub rows_within : (b : ℕ) (c : Chain) (rows : List ℕ) → Rows c (chain none banks b) → rows ≡ rows_of c → AllByRecursion (λ x. x < length banks) rows
+  rows_within b c rows h e = subst (AllByRecursion (λ x. x < length banks)) (sym (e ∙ h.are)) (chain-within b)
 
-  pub above_within : (b : ℕ) (c : Chain) (rows : List ℕ) → Rows c (chain none banks b) → rows ≡ above (rows_of c) → All (λ x. x < length banks) rows
-  above_within b c rows h e = subst (All (λ x. x < length banks)) (sym (e ∙ ap above h.are)) (all_above _ _ (chain-within b))
+  pub above_within : (b : ℕ) (c : Chain) (rows : List ℕ) → Rows c (chain none banks b) → rows ≡ above (rows_of c) → AllByRecursion (λ x. x < length banks) rows
+  above_within b c rows h e = subst (AllByRecursion (λ x. x < length banks)) (sym (e ∙ ap above h.are)) (all_above _ _ (chain-within b))
 
   pub under_read : (d b : ℕ) (c : Chain) (rows : List ℕ) (t : Bool) → Rows c (chain none banks b) → rows ≡ rows_of c → t ≡ among d rows → t ≡ under none banks d b
   under_read d b c rows t h e is = is ∙ ap (among d) (e ∙ h.are)

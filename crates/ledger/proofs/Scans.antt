@@ -1,6 +1,6 @@
 -- A scan of a list for the first that passes a test: what the part scanned so far says.
 use Rattle.std.proofs.Common.{◌≡◌, ℕ, ◌+◌, ◌<◌, ◌≤◌, Bool, true, false, cond, ◌||◌, List, length, get_or, drop, Some, None, sym, ap, ◌∙◌, add-one}
-use Rattle.std.specs.List.{AllByRecursion as All}
+use Rattle.std.specs.List.{AllByRecursion}
 use Rattle.std.proofs.lemmas.List.{at_drop_more, at_drop_all, get_or_read}
 use Rattle.std.proofs.ByRecursion.{All-get_or}
 use Rattle.std.proofs.lemmas.Bool.{cond-true, cond-false, eq-eqb, ne_eqb}
@@ -11,13 +11,13 @@ use Rattle.tables.specs.Rows.{nearest, lowest}
 -- the nearest of the rows xs whose bank passes the test, with the first i scanned; the next one reads as x
 module _ {A : Type 0} (none : A) (test : Bank A → Bool) (banks : List (Bank A)) (xs : List ℕ) (i : ℕ)
     (so_far : nearest (λ b. test (bank_at none banks b)) xs ≡ nearest (λ b. test (bank_at none banks b)) (drop i xs)) where
-  read : All (λ b. b < length banks) xs → i < length xs → (x : Bank A) (t : Bool) → x ≡ get_or banks (get_or xs i 0) x → t ≡ test x → test (bank_at none banks (get_or xs i 0)) ≡ t
+  read : AllByRecursion (λ b. b < length banks) xs → i < length xs → (x : Bank A) (t : Bool) → x ≡ get_or banks (get_or xs i 0) x → t ≡ test x → test (bank_at none banks (get_or xs i 0)) ≡ t
   read all h x t is e = sym (e ∙ ap test (get_or_read banks (get_or xs i 0) x (All-get_or _ xs i 0 h all) is (free_bank none)))
 
-  pub nearest_found : All (λ b. b < length banks) xs → i < length xs → (x : Bank A) → x ≡ get_or banks (get_or xs i 0) x → true ≡ test x → Some (get_or xs i 0) ≡ nearest (λ b. test (bank_at none banks b)) xs
+  pub nearest_found : AllByRecursion (λ b. b < length banks) xs → i < length xs → (x : Bank A) → x ≡ get_or banks (get_or xs i 0) x → true ≡ test x → Some (get_or xs i 0) ≡ nearest (λ b. test (bank_at none banks b)) xs
   nearest_found all h x is e = sym (so_far ∙ at_drop_more (nearest _) xs i 0 h ∙ cond-true _ _ _ (read all h x true is e))
 
-  pub nearest_more : All (λ b. b < length banks) xs → i < length xs → (x : Bank A) → x ≡ get_or banks (get_or xs i 0) x → false ≡ test x
+  pub nearest_more : AllByRecursion (λ b. b < length banks) xs → i < length xs → (x : Bank A) → x ≡ get_or banks (get_or xs i 0) x → false ≡ test x
       → nearest (λ b. test (bank_at none banks b)) xs ≡ nearest (λ b. test (bank_at none banks b)) (drop (i + 1) xs)
   nearest_more all h x is e = so_far ∙ at_drop_more (nearest _) xs i 0 h ∙ cond-false _ _ _ (read all h x false is e)
 

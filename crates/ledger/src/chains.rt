@@ -1,6 +1,6 @@
 // The chains of banks: from a row to its parent and so on up to row 0.
 ghost use Rattle.std.specs.Prelude.{◌≡◌, ◌<◌, ◌≤◌, true, length};
-ghost use Rattle.std.specs.List.{AllByRecursion as All};
+ghost use Rattle.std.specs.List.{AllByRecursion};
 ghost use Rattle.tables.specs.Tables.{among, bank_at, chain};
 ghost use Rattle.tables.specs.Rows.{above, nearest, over, short_of};
 ghost use Rattle.ledger.specs.Posts.{Rows, rows_of};
@@ -75,7 +75,7 @@ pub(crate) fn has(rows: &[u32], bank: usize) -> bool
 
 // The first of the rows whose limit `amount` more would pass.
 pub(crate) fn nearest_over<K: Kind>(banks: &[Bank<K>], rows: &[u32], amount: &K) -> Option<u32>
-    requires { All (λ x. x < length banks.now) rows.now }
+    requires { AllByRecursion (λ x. x < length banks.now) rows.now }
     ensures { result ≡ nearest (over K.Kind.answers banks.now amount.now) rows.now }
 {
     for row in rows {
@@ -88,7 +88,7 @@ pub(crate) fn nearest_over<K: Kind>(banks: &[Bank<K>], rows: &[u32], amount: &K)
 
 // The first of the rows with less than `amount` in use.
 pub(crate) fn nearest_short<K: Kind>(banks: &[Bank<K>], rows: &[u32], amount: &K) -> Option<u32>
-    requires { All (λ x. x < length banks.now) rows.now }
+    requires { AllByRecursion (λ x. x < length banks.now) rows.now }
     ensures { result ≡ nearest (short_of K.Kind.answers banks.now amount.now) rows.now }
 {
     for row in rows {

@@ -2,7 +2,7 @@
 use Rattle.std.proofs.Common.{◌≡◌, ℕ, zero, suc, ◌<◌, Bool, true, false, eqb, List, [], ◌∷◌, ◌++◌, length, refl, ap, ◌∙◌, arith}
 use Rattle.std.proofs.lemmas.Bool.{eqb-true, eqb-false, eq-eqb, ne_eqb}
 use Rattle.std.specs.Str.Iter.{LacksByte}
-use Rattle.std.specs.List.{join_with_byte, AllByRecursion as All}
+use Rattle.std.specs.List.{join_with_byte, AllByRecursion}
 use Rattle.notation.proofs.Cutting.{with_byte, some_piece, uncut}
 use Rattle.notation.specs.Cut.{pieces, on_first}
 use Rattle.notation.specs.Laws.{CutsExactly, CutsOneWay}
@@ -18,13 +18,13 @@ lacks_cons mark b bs other lacks (suc k) lt e = lacks k (omega arith) e
 
 -- one byte more leaves pieces that lack the mark
 lacks_step : (mark b : ℕ) (ps : List (List ℕ)) (marked : Bool)
-    → eqb b mark ≡ marked → All (LacksByte mark) ps → All (LacksByte mark) (with_byte b ps marked)
+    → eqb b mark ≡ marked → AllByRecursion (LacksByte mark) ps → AllByRecursion (LacksByte mark) (with_byte b ps marked)
 lacks_step mark b ps true is all = (lacks_nil mark, all)
 lacks_step mark b [] false is all = tt
 lacks_step mark b (p ∷ ps) false is all = (lacks_cons mark b p (eqb-false b mark is) all.0, all.1)
 
 -- each piece lacks the mark
-all_lack : (mark : ℕ) (bs : List ℕ) → All (LacksByte mark) (pieces mark bs)
+all_lack : (mark : ℕ) (bs : List ℕ) → AllByRecursion (LacksByte mark) (pieces mark bs)
 all_lack mark [] = (lacks_nil mark, tt)
 all_lack mark (b ∷ bs) = lacks_step mark b (pieces mark bs) (eqb b mark) refl (all_lack mark bs)
 

@@ -1,7 +1,7 @@
 -- Cut pieces are the only ones that give the bytes again, and what is written is read as itself. Assumes nothing.
 use Rattle.std.specs.Prelude.{◌≡◌, ℕ, ◌^◌, ◌<◌, List, ◌∷◌, Some, None, decimal, Option}
 use Rattle.std.specs.Str.Iter.{LacksByte}
-use Rattle.std.specs.List.{join_with_byte, AllByRecursion as All}
+use Rattle.std.specs.List.{join_with_byte, AllByRecursion}
 use Rattle.notation.specs.Cut.{pieces}
 use Rattle.notation.specs.Numbers.{number}
 use Rattle.notation.specs.Spans.{part}
@@ -10,12 +10,12 @@ use Rattle.notation.specs.declared.spans.Span.{Span}
 
 -- the pieces lack the mark, and with a mark between each two they are the bytes
 abbrev pub CutsExactly : Type 0
-CutsExactly = (mark : ℕ) (bs : List ℕ) → All (LacksByte mark) (pieces mark bs) × (join_with_byte mark (pieces mark bs) ≡ bs)
+CutsExactly = (mark : ℕ) (bs : List ℕ) → AllByRecursion (LacksByte mark) (pieces mark bs) × (join_with_byte mark (pieces mark bs) ≡ bs)
 
 -- and no other pieces are
 abbrev pub CutsOneWay : Type 0
 CutsOneWay =
-    (mark : ℕ) (p : List ℕ) (ps : List (List ℕ)) → All (LacksByte mark) (p ∷ ps) → pieces mark (join_with_byte mark (p ∷ ps)) ≡ p ∷ ps
+    (mark : ℕ) (p : List ℕ) (ps : List (List ℕ)) → AllByRecursion (LacksByte mark) (p ∷ ps) → pieces mark (join_with_byte mark (p ∷ ps)) ≡ p ∷ ps
 
 -- 32 bits hold n
 abbrev pub Small : ℕ → Type 0
