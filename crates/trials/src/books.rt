@@ -108,9 +108,9 @@ impl<const B: usize, const G: usize> Books<B, G> {
     }
 
     // The call is accepted with this result.
-    pub fn accepts(&mut self, call: Call, res: u32) -> Result<(), Seen> {
+    pub fn accepts(&mut self, call: Call, expected: u32) -> Result<(), Seen> {
         match self.ask(call) {
-            Ok(seen) if seen == res => Ok(()),
+            Ok(seen) if seen == expected => Ok(()),
             answer => Err(Seen::Answer(answer)),
         }
     }
