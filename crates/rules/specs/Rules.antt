@@ -1,5 +1,5 @@
 -- What each call answers, what it puts in the caller's place, and what it leaves. Assumes nothing.
-use Rattle.std.specs.Prelude.{ℕ, ◌+◌, Bool, true, false, not, ◌&&◌, List, [], ◌∷◌, map, length, set, replicate, Some, None, Ok, Err, Option, Result, ◌==◌, nat_eq, nat_le, slice_set}
+use Rattle.std.specs.Prelude.{ℕ, ◌+◌, Bool, true, false, not, ◌&&◌, List, [], ◌∷◌, map, length, replicate, Some, None, Ok, Err, Option, Result, ◌==◌, nat_eq, nat_le, slice_set}
 use Rattle.kind.specs.Algebra.{Answers}
 use Rattle.tables.specs.Tables.{State, free_bank, free_grant, bank_at, grant_at, chain, lost, under}
 use Rattle.tables.specs.declared.refusal.Refusal.{Refusal}
