@@ -36,4 +36,5 @@ returns c =
       | else-used-test w ↦ absurd (omega (arith, lt, w.used-test.false, (tidy_of x).0))
     ] in
     let all : u ≤ length x.runs = omega (arith, c.used.invariant.0, (tidy_of x).0) in
-    ap (λ n. take n x.runs) (omega arith) ∙ used_of x u (record { within = all; each = c.used.invariant.1; last = last })
+    let lent : take (u - 0) x.runs ≡ take u x.runs = ap (λ n. take n x.runs) (omega arith) in
+    lent ∙ used_of x u (record { within = all; each = c.used.invariant.1; last = last })
