@@ -59,7 +59,7 @@ impl Written {
     pub fn amount(&self) -> Result<EngineAmount, AmountRefusal>
         ensures { result ≡ judged self.now }
     {
-        let count = Count::new(self.count)?;
+        let count = Count::try_from(self.count)?;
         let frames = frames_of(self.frames)?;
         let windows = windows_of(self.windows)?;
         Ok(engine_amount(count, frames, windows))

@@ -8,7 +8,7 @@ ghost use Rattle.count.specs.Top.{top};
 // The largest count.
 pub const TOP: u32 = 1_000_000_000;
 
-#[derive(Clone, Copy)]
+#[derive(Clone, Copy, PartialEq, Eq)]
 pub struct Count {
     value: u32,
     ghost capped: { value ≤ top },

@@ -4,8 +4,6 @@
 ghost use Rattle.examples.specs.Examples.{Examples};
 
 // Each example holds of the definitions that the contracts of the kinds cite.
-pub fn examples_hold() -> u8
+pub fn examples_hold()
     ensures { Examples }
-{
-    0
-}
+{}

@@ -11,7 +11,7 @@ pub const FRAMES: u32 = 256;
 const BYTES: usize = 32;
 
 // Frame f is bit f % 8 of byte f / 8, bit 0 lowest.
-#[derive(Clone, Copy)]
+#[derive(Clone, Copy, PartialEq, Eq)]
 pub struct Frames {
     bytes: [u8; BYTES],
     ghost sound: { Bytes frame_bytes bytes },

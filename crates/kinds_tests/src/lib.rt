@@ -7,7 +7,7 @@ mod tests {
     use std::test::Fail;
 
     fn count(n: u32) -> Result<Count, Fail> {
-        match Count::new(n) {
+        match Count::try_from(n) {
             Ok(c) => Ok(c),
             Err(_) => Err(Fail::new("no count")),
         }
@@ -36,8 +36,8 @@ mod tests {
 
     #[test]
     fn refusals(rt: HostRuntime) {
-        assert_eq!(rt; number_of(Count::new(1_000_000_000).err()), 0);
-        assert_eq!(rt; number_of(Count::new(1_000_000_001).err()), 2);
+        assert_eq!(rt; number_of(Count::try_from(1_000_000_000).err()), 0);
+        assert_eq!(rt; number_of(Count::try_from(1_000_000_001).err()), 2);
         assert_eq!(rt; number_of(Frames::from_run(255, 256).err()), 0);
         assert_eq!(rt; number_of(Frames::from_run(255, 257).err()), 3);
         assert_eq!(rt; number_of(Frames::from_run(9, 9).err()), 3);

@@ -3,27 +3,24 @@ ghost use Rattle.notation.specs.Examples.{LinesAsMeant, NumbersAsMeant, SpansAsM
 ghost use Rattle.notation.specs.Laws.{CutsExactly, CutsOneWay, NumbersReadBack, SpansReadBack};
 
 // Numbers, spans, lines and texts at their limits are as they are meant.
-pub fn does_as_meant() -> u8
+pub fn does_as_meant()
     ensures numbers { NumbersAsMeant }
     ensures spans { SpansAsMeant }
     ensures lines { LinesAsMeant }
     ensures texts { TextsAsMeant }
 {
-    0
 }
 
 // The pieces lack the mark and give the bytes again, and no others do.
-pub fn cuts_exactly() -> u8
+pub fn cuts_exactly()
     ensures exactly { CutsExactly }
     ensures one_way { CutsOneWay }
 {
-    0
 }
 
 // What is written of a number or a span is read as it.
-pub fn spans_read_back() -> u8
+pub fn spans_read_back()
     ensures numbers { NumbersReadBack }
     ensures spans { SpansReadBack }
 {
-    0
 }

@@ -58,7 +58,7 @@ fn write_judged(
 fn whole_cycle() -> EngineAmount
     ensures { result ≡ full_cycle }
 {
-    let Ok(count) = Count::new(TOP) else {
+    let Ok(count) = Count::try_from(TOP) else {
         return EngineAmount::empty();
     };
     let Ok(frames) = Frames::from_run(0, FRAMES) else {

@@ -7,7 +7,7 @@ pub struct Head {
 }
 
 // A row of the table of banks. Row 0 is the root; a row whose mark is off is free.
-#[derive(Clone, Copy)]
+#[derive(Clone, Copy, PartialEq, Eq)]
 pub struct Bank<K> {
     pub live: bool,
     pub parent: u32,
@@ -16,7 +16,7 @@ pub struct Bank<K> {
 }
 
 // A row of the table of grants: an amount that a bank has sold and not got back.
-#[derive(Clone, Copy)]
+#[derive(Clone, Copy, PartialEq, Eq)]
 pub struct Grant<K> {
     pub live: bool,
     pub bank: u32,

@@ -4,7 +4,7 @@ use ledger::{Bank, Grant};
 
 // The count of a small number.
 pub fn count(value: u32) -> Count {
-    match Count::new(value) {
+    match Count::try_from(value) {
         Ok(count) => count,
         Err(_) => Count::empty(),
     }

@@ -16,7 +16,7 @@ pub const SECONDS: u16 = 128;
 const PLACES: usize = 64;
 
 // The runs stand in rising order with a gap between each two; unused places are 0 and 0, at the end.
-#[derive(Clone, Copy)]
+#[derive(Clone, Copy, PartialEq, Eq)]
 pub struct Windows {
     runs: [Run; PLACES],
     ghost sound: { tidy second_count window_places runs ≡ true },

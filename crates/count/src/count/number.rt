@@ -5,9 +5,13 @@ ghost use Rattle.std.specs.Prelude.{◌≡◌, IfOk};
 use crate::count::{Count, TOP};
 use kind::AmountRefusal;
 
-impl Count {
+impl TryFrom<u32> for Count {
+    type Error = AmountRefusal;
+
+    ghost try_from_gives = { λ value r. r ≡ make_count value };
+
     // The count of `value`, refused above `TOP`.
-    pub fn new(value: u32) -> Result<Count, AmountRefusal>
+    fn try_from(value: u32) -> Result<Count, AmountRefusal>
         ensures answer { result ≡ make_count value }
         ensures contents { IfOk result (λ c. c.value ≡ value) }
     {
@@ -17,7 +21,9 @@ impl Count {
             Err(AmountRefusal::CountTooLarge)
         }
     }
+}
 
+impl Count {
     // The number.
     pub fn value(&self) -> u32
         ensures { result ≡ self.now.value }
