@@ -1,12 +1,13 @@
 -- The climb from a row up its chain.
-use Rattle.std.proofs.Common.{◌≡◌, ℕ, zero, suc, ◌+◌, ◌-◌, ◌^◌, ◌<◌, ◌≤◌, Bool, true, false, cond, eqb, List, [], ◌∷◌, ◌++◌, length, take, drop, set, sym, refl, ap, ◌∙◌, subst, ⊎_elim, arith}
+use Rattle.std.proofs.Common.{◌≡◌, ℕ, zero, suc, ◌+◌, ◌-◌, ◌<◌, ◌≤◌, Bool, true, false, cond, eqb, List, [], ◌∷◌, ◌++◌, length, Some, None, Option, sym, refl, ap, ◌∙◌, subst, ⊎_elim, arith, length-append}
 use Rattle.std.specs.List.{AllByRecursion}
-use Rattle.std.proofs.lemmas.List.{take_more_set, length-set, length-take-le, drop-take, get_or_past}
+use Rattle.std.specs.Option.{UnwrapsOrElse}
+use Rattle.arrayvec.specs.ArrayVec.{ArrayVec}
+use Rattle.std.proofs.lemmas.List.{get_or_past}
 use Rattle.std.proofs.lemmas.Bool.{cond-false, ne_eqb, eqb-true, both_ways, cases_lt}
 use Rattle.tables.specs.declared.rows.Bank.{Bank}
-use Rattle.ledger.specs.declared.chains.Chain.{Chain}
-use Rattle.ledger.specs.Posts.{Rows, rows_of}
 use Rattle.tables.specs.Rows.{above}
+use Rattle.ledger.specs.Posts.{Climbed}
 use Rattle.tables.specs.Tables.{among, is_none, under_it, free_bank, bank_at, chain_in, chain, lost, under}
 
 -- the rows bs in front of a chain, where that is whole
@@ -30,21 +31,22 @@ under_root : (bs : List ℕ) (x : ℕ) → under_all bs (x ∷ []) ≡ bs ++ x �
 under_root [] x = refl
 under_root (b ∷ bs) x = ap (under_it b) (under_root bs x) ∙ under_it-push b bs x
 
--- what the length of a chain tells of its being one
-pub no_chain : (xs : List ℕ) (n : ℕ) → n ≡ length xs → n ≡ 0 → is_none xs ≡ true
-no_chain [] n counts e = refl
-no_chain (x ∷ xs) n counts e = let more : length (x ∷ xs) ≡ 0 = sym counts ∙ e in absurd (omega (arith, more))
+pub no_chain : (xs : List ℕ) → xs ≡ [] → is_none xs ≡ true
+no_chain xs e = rw e refl
 
-pub a_chain : (xs : List ℕ) (n : ℕ) → n ≡ length xs → (n ≡ 0 → ⊥) → is_none xs ≡ false
-a_chain [] n counts ne = absurd (ne counts)
-a_chain (x ∷ xs) n counts ne = refl
+pub a_chain : (xs : List ℕ) → (xs ≡ [] → ⊥) → is_none xs ≡ false
+a_chain [] ne = absurd (ne refl)
+a_chain (x ∷ xs) ne = refl
 
-above-drop : (xs : List ℕ) → above xs ≡ drop 1 xs
-above-drop [] = refl
-above-drop (x ∷ xs) = refl
+-- a chain that ends in a row is one
+ends_in : (rows : List ℕ) (row : ℕ) → rows ++ row ∷ [] ≡ [] → ⊥
+ends_in [] row e = cc
+ends_in (x ∷ rows) row e = cc
 
-pub above-take : (n : ℕ) (rows : List ℕ) → (n ≡ 0 → ⊥) → take (n - 1) (drop 1 rows) ≡ above (take n rows)
-above-take n rows ne = let more : n ≡ 1 + (n - 1) = omega arith in sym (above-drop (take n rows) ∙ ap (λ (k : ℕ). drop 1 (take k rows)) more ∙ drop-take 1 (n - 1) rows)
+-- the rows of a climb, none where it failed
+pub climbed_rows : {rows : List ℕ} (r : Option (ArrayVec ℕ)) {chain : ArrayVec ℕ} → Climbed rows r → UnwrapsOrElse r (λ v. v.items ≡ []) chain → chain.items ≡ rows
+climbed_rows None none made = made ∙ sym none
+climbed_rows (Some c) is made = ap (λ (v : ArrayVec ℕ). v.items) made ∙ is.0
 
 all_above : (P : ℕ → Type 0) (xs : List ℕ) → AllByRecursion P xs → AllByRecursion P (above xs)
 all_above P [] h = tt
@@ -58,43 +60,40 @@ module _ {A : Type 0} (none : A) (banks : List (Bank A)) where
   step : (n b : ℕ) → (bank_at none banks b).live ≡ true → chain_in none (suc n) banks b ≡ cond (eqb b 0) (0 ∷ []) (under_it b (chain_in none n banks (bank_at none banks b).parent))
   step n b e = ap (λ l. cond l (cond (eqb b 0) (0 ∷ []) (under_it b (chain_in none n banks (bank_at none banks b).parent))) []) e
 
-  -- i rows of the chain of b stand in rows, and the climb goes on from row
-  pub record Climb (b row i : ℕ) (rows : List ℕ) : Type 0 where
-    pub small : row < 2 ^ 32
-    pub long : length rows ≡ 16
-    pub so_far : chain none banks b ≡ under_all (take i rows) (chain_in none (16 - i) banks row)
+  -- the chain of b begins with these rows, and the climb goes on from row
+  pub record Climb (b row : ℕ) (rows : List ℕ) : Type 0 where
+    pub so_far : chain none banks b ≡ under_all rows (chain_in none (16 - length rows) banks row)
 
-  pub climb_starts : (b : ℕ) (rows : List ℕ) → b < 2 ^ 32 → length rows ≡ 16 → Climb b b 0 rows
+  pub climb_starts : (b : ℕ) → Climb b b []
   unfolding chain
-  climb_starts b rows h l = record { small = h; long = l; so_far = refl }
+  climb_starts b = record { so_far = refl }
 
-  pub climb_fails : {b row i : ℕ} {rows : List ℕ} → Climb b row i rows → (bank_at none banks row).live ≡ false → [] ≡ chain none banks b
-  climb_fails {b} {row} {i} {rows} c e = sym (c.so_far ∙ ap (under_all (take i rows)) (stop (16 - i) row e) ∙ under-nothing (take i rows))
+  pub climb_fails : {b row : ℕ} {rows : List ℕ} → Climb b row rows → (bank_at none banks row).live ≡ false → chain none banks b ≡ []
+  climb_fails {b} {row} {rows} c e = c.so_far ∙ ap (under_all rows) (stop (16 - length rows) row e) ∙ under-nothing rows
 
-  module _ {b row i : ℕ} {rows : List ℕ} (c : Climb b row i rows) (in_reach : i < 16) (live : (bank_at none banks row).live ≡ true) where
-    next : chain none banks b ≡ under_all (take i rows) (cond (eqb row 0) (0 ∷ []) (under_it row (chain_in none (16 - (i + 1)) banks (bank_at none banks row).parent)))
+  pub climb-full : {b row : ℕ} {rows : List ℕ} → Climb b row rows → length rows ≡ 16 → chain none banks b ≡ []
+  climb-full {b} {row} {rows} c e = c.so_far ∙ ap (λ (n : ℕ). under_all rows (chain_in none (16 - n) banks row)) e ∙ under-nothing rows
+
+  module _ {b row : ℕ} {rows : List ℕ} (c : Climb b row rows) (room : length rows < 16) (live : (bank_at none banks row).live ≡ true) where
+    abbrev left : ℕ
+    left = 16 - (length rows + 1)
+
+    next : chain none banks b ≡ under_all rows (cond (eqb row 0) (0 ∷ []) (under_it row (chain_in none left banks (bank_at none banks row).parent)))
     next =
-        let one_less : 16 - i ≡ suc (16 - (i + 1)) = omega arith in
-        c.so_far ∙ ap (λ (n : ℕ). under_all (take i rows) (chain_in none n banks row)) one_less ∙ ap (under_all (take i rows)) (step (16 - (i + 1)) row live)
+        let one_less : 16 - length rows ≡ suc left = omega arith in
+        c.so_far ∙ ap (λ (n : ℕ). under_all rows (chain_in none n banks row)) one_less ∙ ap (under_all rows) (step left row live)
 
-    written : take (i + 1) (set rows i row) ≡ take i rows ++ row ∷ []
-    written = let h : i < length rows = omega arith in take_more_set rows i row h
+    pub climb_tops : row ≡ 0 → rows ++ row ∷ [] ≡ chain none banks b
+    climb_tops e = sym (next ∙ ap (λ (z : ℕ). under_all rows (cond (eqb z 0) (0 ∷ []) (under_it z (chain_in none left banks (bank_at none banks z).parent)))) e ∙ under_root rows 0 ∙ ap (λ (z : ℕ). rows ++ z ∷ []) (sym e))
 
-    pub climb_tops : row ≡ 0 → take (i + 1) (set rows i row) ≡ chain none banks b
-    climb_tops e = sym (next ∙ ap (λ (z : ℕ). under_all (take i rows) (cond (eqb z 0) (0 ∷ []) (under_it z (chain_in none (16 - (i + 1)) banks (bank_at none banks z).parent)))) e ∙ under_root (take i rows) 0 ∙ ap (λ (z : ℕ). take i rows ++ z ∷ []) (sym e) ∙ sym written)
+    pub climb_whole : row ≡ 0 → chain none banks b ≡ [] → ⊥
+    climb_whole e none = ends_in rows row (climb_tops e ∙ none)
 
-    pub length_tops : row ≡ 0 → i + 1 ≡ length (chain none banks b)
-    length_tops e =
-        let h : i + 1 ≤ length (set rows i row) = simp length-set (omega arith) in
-        sym (length-take-le (i + 1) (set rows i row) h) ∙ ap length (climb_tops e)
-
-    pub climb_on : (p : ℕ) → (row ≡ 0 → ⊥) → p ≡ (bank_at none banks row).parent → p < 2 ^ 32 → Climb b p (i + 1) (set rows i row)
-    climb_on p ne e h = record {
-      small = h;
-      long = length-set rows i row ∙ c.long;
+    pub climb_on : (p : ℕ) → (row ≡ 0 → ⊥) → p ≡ (bank_at none banks row).parent → Climb b p (rows ++ row ∷ [])
+    climb_on p ne e = record {
       so_far =
-          next ∙ ap (under_all (take i rows)) (cond-false (eqb row 0) (0 ∷ []) _ (ne_eqb row 0 ne) ∙ ap (λ (z : ℕ). under_it row (chain_in none (16 - (i + 1)) banks z)) (sym e))
-          ∙ sym (under-push (take i rows) row _) ∙ ap (λ zs. under_all zs (chain_in none (16 - (i + 1)) banks p)) (sym written);
+          next ∙ ap (under_all rows) (cond-false (eqb row 0) (0 ∷ []) _ (ne_eqb row 0 ne) ∙ ap (λ (z : ℕ). under_it row (chain_in none left banks z)) (sym e))
+          ∙ sym (under-push rows row _) ∙ ap (λ (n : ℕ). under_all (rows ++ row ∷ []) (chain_in none (16 - n) banks p)) (sym (length-append rows (row ∷ [])));
     }
 
   -- a bank that is not live has no chain
@@ -123,14 +122,11 @@ module _ {A : Type 0} (none : A) (banks : List (Bank A)) where
   unfolding chain
   chain-within b = within_in 16 b
 
-  pub rows_within : (b : ℕ) (c : Chain) (rows : List ℕ) → Rows c (chain none banks b) → rows ≡ rows_of c → AllByRecursion (λ x. x < length banks) rows
-  rows_within b c rows h e = subst (AllByRecursion (λ x. x < length banks)) (sym (e ∙ h.are)) (chain-within b)
+  pub rows_within : (b : ℕ) (rows : List ℕ) → rows ≡ chain none banks b → AllByRecursion (λ x. x < length banks) rows
+  rows_within b rows e = subst (AllByRecursion (λ x. x < length banks)) (sym e) (chain-within b)
 
-  pub above_within : (b : ℕ) (c : Chain) (rows : List ℕ) → Rows c (chain none banks b) → rows ≡ above (rows_of c) → AllByRecursion (λ x. x < length banks) rows
-  above_within b c rows h e = subst (AllByRecursion (λ x. x < length banks)) (sym (e ∙ ap above h.are)) (all_above _ _ (chain-within b))
-
-  pub under_read : (d b : ℕ) (c : Chain) (rows : List ℕ) (t : Bool) → Rows c (chain none banks b) → rows ≡ rows_of c → t ≡ among d rows → t ≡ under none banks d b
-  under_read d b c rows t h e is = is ∙ ap (among d) (e ∙ h.are)
+  pub above_within : (b : ℕ) (rows : List ℕ) → rows ≡ above (chain none banks b) → AllByRecursion (λ x. x < length banks) rows
+  above_within b rows e = subst (AllByRecursion (λ x. x < length banks)) (sym e) (all_above _ _ (chain-within b))
 
   -- no chain starts past the table
   pub under_past : (d b : ℕ) → length banks ≤ b → under none banks d b ≡ false

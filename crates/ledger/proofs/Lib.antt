@@ -1,6 +1,5 @@
 -- what the code does: its outcomes, its passes over the tables, its climb up a chain, its searches
 pub mod Climbs
-pub mod Due
 pub mod Marks
 pub mod Once
 pub mod Outcomes

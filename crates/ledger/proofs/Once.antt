@@ -2,12 +2,10 @@
 use Rattle.std.proofs.Common.{◌≡◌, ℕ, zero, suc, ◌≤◌, Bool, true, false, cond, eqb, List, [], ◌∷◌, length, Some, Option, sym, refl, ap, subst, arith}
 use Rattle.std.proofs.lemmas.Bool.{eqb-true, eqb-false}
 use Rattle.tables.specs.declared.rows.Bank.{Bank}
-use Rattle.ledger.specs.declared.chains.Chain.{Chain}
 use Rattle.tables.specs.Tables.{under_it, bank_at, chain_in, chain}
 use Rattle.tables.specs.Rows.{above}
 use Rattle.rules.specs.Record.{Opened}
 use Rattle.rules.specs.Law.{Distinct}
-use Rattle.ledger.specs.Posts.{Rows, rows_of}
 use Rattle.rules.proofs.Roads.{Road, road_same, road_from, road_cons}
 use Rattle.rules.proofs.RowFacts.{seen, seen_live}
 use Rattle.rules.proofs.Serials.{not-among}
@@ -61,8 +59,8 @@ module _ {A : Type 0} (none : A) (banks : List (Bank A)) where
   unfolding chain
   chain_once b = once b (chain_in none 16 banks b) (whole_in 16 b)
 
-  pub rows_once : (b : ℕ) (c : Chain) (rows : List ℕ) → Rows c (chain none banks b) → rows ≡ rows_of c → Distinct rows
-  rows_once b c rows h e = rw e (rw h.are (chain_once b))
+  pub rows_once : (b : ℕ) (rows : List ℕ) → rows ≡ chain none banks b → Distinct rows
+  rows_once b rows e = rw e (chain_once b)
 
-  pub above_once : (b : ℕ) (c : Chain) (rows : List ℕ) → Rows c (chain none banks b) → rows ≡ above (rows_of c) → Distinct rows
-  above_once b c rows h e = rw e (rw h.are (once_above _ (chain_once b)))
+  pub above_once : (b : ℕ) (rows : List ℕ) → rows ≡ above (chain none banks b) → Distinct rows
+  above_once b rows e = rw e (once_above _ (chain_once b))

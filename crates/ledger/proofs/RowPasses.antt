@@ -2,8 +2,9 @@
 use Rattle.std.proofs.Common.{◌≡◌, ℕ, zero, suc, ◌+◌, ◌<◌, ◌≤◌, Bool, true, false, cond, List, [], ◌∷◌, map, length, get_or, drop, set, replicate, sym, refl, ap, ◌∙◌, subst, le_of_suc-le-suc, not-suc-le-zero, add-zero, add-suc, suc-add, zero-add, add-one, arith}
 use lib.Seq.{set-get_or}
 use Rattle.std.proofs.lemmas.List.{at_drop_more, at_drop_all, get_or_default}
-use Rattle.std.proofs.lemmas.Bool.{cond-true, cond-false}
+use Rattle.std.proofs.lemmas.Bool.{cond-true, cond-false, cond_both}
 use Rattle.tables.specs.Rows.{each_at, how_many}
+use Rattle.ledger.specs.Passes.{Rewritten}
 
 -- the rows from place j on, of which the first i are rewritten
 abbrev pub passed : {X : Type 0} → (ℕ → X → X) → ℕ → ℕ → List X → List X
@@ -54,6 +55,14 @@ each_same y j (x ∷ xs) = ap (λ ys. y ∷ ys) (each_same y (suc j) xs)
 pub each_map : {X : Type 0} (f : X → X) (j : ℕ) (xs : List X) → each_at (λ _ x. f x) j xs ≡ map f xs
 each_map f j [] = refl
 each_map f j (x ∷ xs) = ap (λ ys. f x ∷ ys) (each_map f (suc j) xs)
+
+how_many_le : {X : Type 0} (test : X → Bool) (xs : List X) → how_many test xs ≤ length xs
+how_many_le test [] = omega arith
+how_many_le test (x ∷ xs) = cond_both (test x) _ _ (λ (n : ℕ). n ≤ length (x ∷ xs)) (λ e. omega (arith, how_many_le test xs)) (λ e. omega (arith, how_many_le test xs))
+
+-- no more rows are changed than there are
+pub few_changed : {X : Type 0} {test : X → Bool} {change : X → X} {xs ys : List X} {n : ℕ} → Rewritten test change xs ys n → n ≤ length xs
+few_changed {test = test} {xs = xs} r = omega (arith, r.counts, how_many_le test xs)
 
 -- a pass that counts the rows that pass the test, and rewrites them; d is any row
 module _ {X : Type 0} (test : X → Bool) (f : X → X) (xs : List X) where

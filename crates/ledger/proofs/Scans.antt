@@ -1,9 +1,9 @@
 -- A scan of a list for the first that passes a test: what the part scanned so far says.
-use Rattle.std.proofs.Common.{◌≡◌, ℕ, ◌+◌, ◌<◌, ◌≤◌, Bool, true, false, cond, ◌||◌, List, length, get_or, drop, Some, None, sym, ap, ◌∙◌, add-one}
-use Rattle.std.specs.List.{AllByRecursion}
+use Rattle.std.proofs.Common.{◌≡◌, ℕ, ◌+◌, ◌<◌, ◌≤◌, Bool, true, false, cond, ◌||◌, List, [], ◌∷◌, length, get_or, drop, Some, None, Option, eqb, sym, refl, ap, ap₂, ◌∙◌, ⊎_elim, add-one}
+use Rattle.std.specs.List.{AllByRecursion, list_any}
 use Rattle.std.proofs.lemmas.List.{at_drop_more, at_drop_all, get_or_read}
 use Rattle.std.proofs.ByRecursion.{All-get_or}
-use Rattle.std.proofs.lemmas.Bool.{cond-true, cond-false, eq-eqb, ne_eqb}
+use Rattle.std.proofs.lemmas.Bool.{cond-true, cond-false, cases_eq, eq-eqb, ne_eqb}
 use Rattle.tables.specs.declared.rows.Bank.{Bank}
 use Rattle.tables.specs.Tables.{among, bank_at, free_bank}
 use Rattle.tables.specs.Rows.{nearest, lowest}
@@ -24,15 +24,17 @@ module _ {A : Type 0} (none : A) (test : Bank A → Bool) (banks : List (Bank A)
   pub nearest-end : length xs ≤ i → None ≡ nearest (λ b. test (bank_at none banks b)) xs
   nearest-end h = sym (so_far ∙ at_drop_all (nearest _) xs i h)
 
-module _ (b : ℕ) (xs : List ℕ) (i : ℕ) (so_far : among b xs ≡ among b (drop i xs)) where
-  pub among_found : i < length xs → b ≡ get_or xs i 0 → among b xs ≡ true
-  among_found h e = so_far ∙ at_drop_more (among b) xs i 0 h ∙ ap (λ t. t || among b (drop (i + 1) xs)) (eq-eqb b (get_or xs i 0) e)
+-- what was found along some rows, where they are those of xs
+pub found_on : (test : ℕ → Bool) {rows xs : List ℕ} {r s : Option ℕ} → r ≡ nearest test rows → rows ≡ xs → r ≡ s → nearest test xs ≡ s
+found_on test found are is = ap (nearest test) (sym are) ∙ sym found ∙ is
 
-  pub among_more : i < length xs → (b ≡ get_or xs i 0 → ⊥) → among b xs ≡ among b (drop (i + 1) xs)
-  among_more h e = so_far ∙ at_drop_more (among b) xs i 0 h ∙ ap (λ t. t || among b (drop (i + 1) xs)) (ne_eqb b (get_or xs i 0) e)
+turned : (n m : ℕ) → eqb n m ≡ eqb m n
+turned n m = ⊎_elim (λ (e : n ≡ m). eq-eqb n m e ∙ sym (eq-eqb m n (sym e))) (λ (ne : n ≡ m → ⊥). ne_eqb n m ne ∙ sym (ne_eqb m n (λ e. ne (sym e)))) (cases_eq n m)
 
-  pub among-end : length xs ≤ i → among b xs ≡ false
-  among-end h = so_far ∙ at_drop_all (among b) xs i h
+-- a number is among those of a list if some number there is the same
+pub any-among : (n : ℕ) (xs : List ℕ) → list_any (λ x. eqb x n) xs ≡ among n xs
+any-among n [] = refl
+any-among n (x ∷ xs) = ap₂ (λ a b. a || b) (turned x n) (any-among n xs)
 
 -- the lowest row that passes the test, with the rows below i scanned; d is any row
 module _ {X : Type 0} (f : ℕ → X → Bool) (xs : List X) (i : ℕ) (so_far : lowest f 0 xs ≡ lowest f i (drop i xs)) where

@@ -1,17 +1,21 @@
 -- How a call's contract reads off the rule of the call. Assumes nothing.
-use Rattle.std.specs.Prelude.{◌≡◌, ℕ, ◌≤◌, Bool, false, List, length, take, Result, slice_index_or}
+use Rattle.std.specs.Prelude.{◌≡◌, ◌≢◌, ℕ, Bool, false, List, [], Option, Result, MatchOption, slice_index_or}
 use Rattle.std.specs.Option.{unwrap_or}
-use Rattle.tables.specs.declared.rows.Bank.{Bank}
-use Rattle.tables.specs.declared.rows.Grant.{Grant}
-use Rattle.tables.specs.declared.rows.Head.{Head}
-use Rattle.ledger.specs.declared.chains.Chain.{Chain}
+use Rattle.arrayvec.specs.ArrayVec.{ArrayVec}
+use Rattle.ledger.specs.declared.ledger.Ledger.{Ledger}
 use Rattle.tables.specs.declared.refusal.Refusal.{Refusal}
 use Rattle.tables.specs.Tables.{State}
 use Rattle.rules.specs.Rules.{Outcome}
 
--- the ledger that lies in a head and two tables
-abbrev pub state : {A : Type 0} → Head → List (Bank A) → List (Grant A) → State A
-state head banks grants = record { last = head.last_serial; banks = banks; grants = grants }
+-- the ledger that is lent, as the rules see it
+abbrev pub lent : {A : Type 0} → Ledger A → State A
+lent l = record { last = l.head.now.last_serial; banks = l.banks.now; grants = l.grants.now }
+
+-- what is lent stays the same head and the same two tables, whatever is written in them
+pub record SameParts {A : Type 0} (before after : Ledger A) : Type 0 where
+  pub head : after.head.ghost_name ≡ before.head.ghost_name
+  pub banks : after.banks.ghost_name ≡ before.banks.ghost_name
+  pub grants : after.grants.ghost_name ≡ before.grants.ghost_name
 
 -- a call with the answer r that leaves the ledger as s came to what its rule says
 pub record Meets {A : Type 0} (o : Outcome A) (r : Result ℕ Refusal) (s : State A) : Type 0 where
@@ -22,14 +26,9 @@ pub record Meets {A : Type 0} (o : Outcome A) (r : Result ℕ Refusal) (s : Stat
 pub record Places {A : Type 0} (o : Outcome A) (before place : A) : Type 0 where
   pub holds : place ≡ unwrap_or o.placed before
 
--- a chain of banks as the code holds it
-abbrev pub rows_of : Chain → List ℕ
-rows_of c = take c.len c.rows
-
-pub record Rows (c : Chain) (rows : List ℕ) : Type 0 where
-  pub fits : c.len ≤ 16
-  pub counts : c.len ≡ length rows
-  pub are : rows_of c ≡ rows
+-- the rows of a chain, if it is whole: a chain that is not has no row
+abbrev pub Climbed : List ℕ → Option (ArrayVec ℕ) → Type 0
+Climbed rows r = MatchOption r (rows ≡ []) (λ c. (c.items ≡ rows) × (rows ≢ []))
 
 -- is the row among those marked
 abbrev pub marked : List Bool → ℕ → Bool

@@ -1,8 +1,11 @@
 // What reclaim does to the two tables: it frees the rows marked.
-ghost use Rattle.std.specs.Prelude.{◌≡◌, ◌≤◌, ◌&&◌, map, length};
-ghost use Rattle.tables.specs.Rows.{each_at, how_many, held, freed_bank, freed_grant};
+ghost use Rattle.std.specs.Prelude.{◌≡◌, ◌&&◌};
+ghost use Rattle.tables.specs.Rows.{each_at, held, freed_bank};
+ghost use Rattle.tables.specs.Tables.{free_grant};
+ghost use Rattle.ledger.specs.Passes.{Rewritten};
 ghost use Rattle.ledger.specs.Posts.{marked};
 
+use crate::passes::rewrite;
 use kind::Kind;
 use tables::{Bank, Grant};
 
@@ -13,43 +16,31 @@ fn is_marked(marks: &[bool], row: usize) -> bool
     row < marks.len() && marks[row]
 }
 
-// Is the row live, and its bank marked?
+// Is the row live, and marked?
 fn is_gone<K: Kind>(bank: &Bank<K>, row: usize, gone: &[bool]) -> bool
     ensures { result ≡ (bank.now.live && marked gone.now row) }
 {
     bank.live && is_marked(gone, row)
 }
 
-// Is the grant live, and its bank marked?
-fn is_in_any<K: Kind>(grant: &Grant<K>, marks: &[bool]) -> bool
-    ensures { result ≡ held (marked marks.now) grant.now }
-{
-    grant.live && is_marked(marks, grant.bank as usize)
-}
-
 // Frees the marked banks.
 pub(crate) fn free_banks<K: Kind>(banks: &mut [Bank<K>], gone: &[bool])
     ensures { banks.new ≡ each_at (freed_bank K.Kind.answers (marked gone.now)) 0 banks.old }
 {
-    for i in 0..banks.len() {
-        if is_gone(&banks[i], i, gone) {
-            banks[i] = Bank::free();
+    for (row, bank) in banks.iter_mut().enumerate() {
+        if is_gone(bank, row, gone) {
+            *bank = Bank::free();
         }
     }
 }
 
 // Frees the grants of the marked banks, and answers how many.
-pub(crate) fn free_grants<K: Kind>(grants: &mut [Grant<K>], gone: &[bool]) -> u32
-    requires { length grants.old ≤ 1024 }
-    ensures counts { result ≡ how_many (held (marked gone.now)) grants.old }
-    ensures frees { grants.new ≡ map (freed_grant K.Kind.answers (marked gone.now)) grants.old }
+pub(crate) fn free_grants<K: Kind>(grants: &mut [Grant<K>], gone: &[bool]) -> usize
+    ensures { Rewritten (held (marked gone.now)) (λ _. free_grant K.Kind.answers.empty) grants.old grants.new result }
 {
-    let mut count = 0;
-    for i in 0..grants.len() {
-        if is_in_any(&grants[i], gone) {
-            grants[i] = Grant::free();
-            count += 1;
-        }
-    }
-    count
+    rewrite(
+        grants,
+        |grant| grant.live && is_marked(gone, grant.bank as usize),
+        |_| Grant::free(),
+    )
 }

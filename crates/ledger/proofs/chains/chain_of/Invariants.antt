@@ -1,5 +1,9 @@
+use Rattle.std.proofs.Common.{◌-◌, length}
 use Rattle.ledger.proofs.Climbs.{Climb}
 use Rattle.ledger.proofs.chains.chain_of.Given as goal
 
-abbrev pub invariant-loop-i : goal.invariant-loop-i
-invariant-loop-i g l = Climb g.K.Kind.answers.empty l.banks l.bank l.row l.i l.rows
+abbrev pub invariant-climb : goal.invariant-climb
+invariant-climb g l = Climb g.K.Kind.answers.empty l.banks l.bank l.row l.rows.items
+
+abbrev pub decreases-climb : goal.decreases-climb
+decreases-climb g l = 16 - length l.rows.items
