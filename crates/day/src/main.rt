@@ -5,6 +5,7 @@ mod desk;
 mod words;
 
 use desk::Desk;
+use ledger::{Bank, Grant, Head, Ledger};
 
 // Bank 0 is the junction's; north and south stand under it, and the left turn under north.
 const JUNCTION: u32 = 0;
@@ -92,7 +93,15 @@ fn close_south(desk: &mut Desk) -> anyhow::Result<()> {
 }
 
 fn run(rt: &HostRuntime) -> anyhow::Result<()> {
-    let mut desk = Desk::new(rt);
+    let mut head = Head { last_serial: 0 };
+    let mut banks = [Bank::free(); 8];
+    let mut grants = [Grant::free(); 32];
+    let ledger = Ledger {
+        head: &mut head,
+        banks: &mut banks,
+        grants: &mut grants,
+    };
+    let mut desk = Desk::new(rt, ledger);
     open_branches(&mut desk)?;
     rush_hour(&mut desk)?;
     slips(&mut desk)?;

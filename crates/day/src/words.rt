@@ -1,4 +1,6 @@
 // Answers of the ledger, in words.
+use amounts::AmountText;
+use kinds::EngineAmount;
 use ledger::Refusal;
 use std::fmt;
 
@@ -35,5 +37,26 @@ impl fmt::Display for AnswerText {
                 write!(f, "refused with {number} at {place}, {word}")
             }
         }
+    }
+}
+
+// An answer with the amount that the call delivers if it is accepted.
+#[derive(Clone, Copy)]
+pub struct Delivery {
+    pub answer: Result<u32, Refusal>,
+    pub verb: &'static str,
+    pub amount: EngineAmount,
+}
+
+impl fmt::Display for Delivery {
+    fn fmt<W: fmt::Write>(&self, f: &mut fmt::Formatter<W>) -> fmt::Result {
+        let answer = AnswerText(self.answer);
+        write!(f, "{answer}")?;
+        if self.answer.is_ok() {
+            let verb = self.verb;
+            let amount = AmountText(&self.amount);
+            write!(f, ", {verb} {amount}")?;
+        }
+        Ok(())
     }
 }

@@ -1,7 +1,7 @@
 // The records that the caller keeps and lends.
 
 // The head of a ledger. It is never copied.
-#[derive(Drop)]
+#[derive(Drop, PartialEq, Eq)]
 pub struct Head {
     pub last_serial: u32,
 }

@@ -1,8 +1,8 @@
 // The books of a trial: a ledger of counts whose rows a trial writes as it likes, and calls with the answer that is expected.
-use crate::rows::{bank, count, grant, same_bank, same_banks, same_grant, same_grants};
+use crate::rows::{bank, count, grant, put, stands};
 use crate::seen::{Part, Seen, expect};
 use kinds::Count;
-use ledger::{Bank, Grant, Head, Refusal};
+use ledger::{Bank, Grant, Head, Ledger, Refusal};
 
 #[derive(Drop)]
 pub struct Books<const B: usize, const G: usize> {
@@ -51,28 +51,21 @@ impl<const B: usize, const G: usize> Books<B, G> {
     }
 
     pub fn put_bank(&mut self, row: usize, bank: Bank<Count>) {
-        if row < B {
-            self.banks[row] = bank;
-        }
+        put(&mut self.banks, row, bank);
     }
 
     pub fn put_grant(&mut self, row: usize, grant: Grant<Count>) {
-        if row < G {
-            self.grants[row] = grant;
-        }
+        put(&mut self.grants, row, grant);
     }
 
     // This bank stands in the row.
     pub fn has_bank(&self, row: usize, bank: Bank<Count>) -> Result<(), Seen> {
-        expect(row < B && same_bank(&self.banks[row], &bank), Part::Banks)
+        stands(&self.banks, row, &bank, Part::Banks)
     }
 
     // This grant stands in the row.
     pub fn has_grant(&self, row: usize, grant: Grant<Count>) -> Result<(), Seen> {
-        expect(
-            row < G && same_grant(&self.grants[row], &grant),
-            Part::Grants,
-        )
+        stands(&self.grants, row, &grant, Part::Grants)
     }
 
     // This amount stands in the caller's place.
@@ -82,28 +75,26 @@ impl<const B: usize, const G: usize> Books<B, G> {
 
     // All is as in `other`.
     pub fn is_as(&self, other: &Self) -> Result<(), Seen> {
-        expect(self.head.last_serial == other.head.last_serial, Part::Head)?;
-        expect(same_banks(&self.banks, &other.banks), Part::Banks)?;
-        expect(same_grants(&self.grants, &other.grants), Part::Grants)?;
+        expect(self.head == other.head, Part::Head)?;
+        expect(self.banks == other.banks, Part::Banks)?;
+        expect(self.grants == other.grants, Part::Grants)?;
         self.has_place(other.place.value())
     }
 
     fn ask(&mut self, call: Call) -> Result<u32, Refusal> {
-        let head = &mut self.head;
-        let banks = &mut self.banks;
-        let grants = &mut self.grants;
+        let mut ledger = Ledger {
+            head: &mut self.head,
+            banks: &mut self.banks,
+            grants: &mut self.grants,
+        };
         match call {
-            Call::SetUp(endowment) => ledger::set_up(head, banks, grants, count(endowment)),
-            Call::Open(parent, child, limit) => {
-                ledger::open(head, banks, grants, parent, child, count(limit))
-            }
-            Call::Buy(bank, row, amount) => {
-                ledger::buy(head, banks, grants, bank, row, count(amount))
-            }
-            Call::Back(row, serial) => ledger::give_back(head, banks, grants, row, serial),
-            Call::Reclaim(bank) => ledger::reclaim(head, banks, grants, bank, &mut self.place),
-            Call::HandUp(bank) => ledger::hand_up(head, banks, grants, bank),
-            Call::Stock => ledger::stock(head, banks, grants, &mut self.place),
+            Call::SetUp(endowment) => ledger.set_up(count(endowment)),
+            Call::Open(parent, child, limit) => ledger.open(parent, child, count(limit)),
+            Call::Buy(bank, row, amount) => ledger.buy(bank, row, count(amount)),
+            Call::Back(row, serial) => ledger.give_back(row, serial),
+            Call::Reclaim(bank) => ledger.reclaim(bank, &mut self.place),
+            Call::HandUp(bank) => ledger.hand_up(bank),
+            Call::Stock => ledger.stock(&mut self.place),
         }
     }
 

@@ -1,13 +1,11 @@
-// Rows of counts, made and compared.
+// Rows of counts, made, written and compared.
+use crate::seen::{Part, Seen, expect};
 use kinds::{Count, Kind};
 use ledger::{Bank, Grant};
 
 // The count of a small number.
 pub fn count(value: u32) -> Count {
-    match Count::try_from(value) {
-        Ok(count) => count,
-        Err(_) => Count::empty(),
-    }
+    Count::try_from(value).unwrap_or(Count::empty())
 }
 
 // A live bank with a limit of 100.
@@ -30,28 +28,14 @@ pub fn grant(bank: u32, serial: u32, amount: u32) -> Grant<Count> {
     }
 }
 
-pub fn same_bank(x: &Bank<Count>, y: &Bank<Count>) -> bool {
-    x.live == y.live && x.parent == y.parent && x.limit.same(&y.limit) && x.used.same(&y.used)
-}
-
-pub fn same_grant(x: &Grant<Count>, y: &Grant<Count>) -> bool {
-    x.live == y.live && x.bank == y.bank && x.serial == y.serial && x.amount.same(&y.amount)
-}
-
-pub fn same_banks(these: &[Bank<Count>], those: &[Bank<Count>]) -> bool {
-    for (x, y) in these.iter().zip(those.iter()) {
-        if !same_bank(x, y) {
-            return false;
-        }
+// Writes a row, if the table has it.
+pub fn put<R: Copy>(table: &mut [R], row: usize, value: R) {
+    if row < table.len() {
+        table[row] = value;
     }
-    these.len() == those.len()
 }
 
-pub fn same_grants(these: &[Grant<Count>], those: &[Grant<Count>]) -> bool {
-    for (x, y) in these.iter().zip(those.iter()) {
-        if !same_grant(x, y) {
-            return false;
-        }
-    }
-    these.len() == those.len()
+// This value stands in the row.
+pub fn stands<R: PartialEq>(table: &[R], row: usize, value: &R, part: Part) -> Result<(), Seen> {
+    expect(table.get(row) == Some(value), part)
 }
