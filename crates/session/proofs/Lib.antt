@@ -1,1 +1,2 @@
+mod Came
 mod EngineLaws

@@ -43,6 +43,11 @@ comes_to (Reclaim d) s = reclaims engine_answers s d
 comes_to (Up d) s = hands_up engine_answers s d
 comes_to Stock s = stocks engine_answers s
 
+-- an accepted call is done, with its result and what was delivered
+abbrev pub done_of : Result ℕ Refusal → Option Engine → Result Done Refusal
+done_of (Ok n) placed = Ok (record { result = n; amount = placed })
+done_of (Err e) placed = Err e
+
 -- the reply to an answer, with what was delivered
 abbrev pub reply_of : Result ℕ Refusal → Option Engine → Result Done LineRefusal
 reply_of (Ok n) placed = Ok (record { result = n; amount = placed })

@@ -11,6 +11,7 @@ const BANKS: usize = 8;
 
 const GRANTS: usize = 32;
 
+// The tables lie here from the start, so `begun` is a mark and no Option holds them.
 #[derive(Drop)]
 pub struct Session {
     pub(crate) begun: bool,
