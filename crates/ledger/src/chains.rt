@@ -21,8 +21,7 @@ pub(crate) fn is_live<K: Kind>(banks: &[Bank<K>], bank: u32) -> bool
     ensures is { result ≡ (bank_at K.Kind.answers.empty banks.now bank).live }
     ensures within { result ≡ true → bank < length banks.now }
 {
-    let row = bank as usize;
-    row < banks.len() && banks[row].live
+    banks.get(bank as usize).is_some_and(|row| row.live)
 }
 
 // The chain of a bank, if it has a whole one.

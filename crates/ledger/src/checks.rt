@@ -17,8 +17,7 @@ use tables::{Bank, Grant, Refusal, Table};
 fn is_granted<K: Kind>(grants: &[Grant<K>], row: u32) -> bool
     ensures { result ≡ (grant_at K.Kind.answers.empty grants.now row).live }
 {
-    let at = row as usize;
-    at < grants.len() && grants[at].live
+    grants.get(row as usize).is_some_and(|grant| grant.live)
 }
 
 // Is the grant live, in a bank that is not?
@@ -53,10 +52,10 @@ impl<K: Kind> Ledger<'_, K> {
     pub(crate) fn check_lengths(&self) -> Result<(), Refusal>
         ensures { result_err result ≡ misfit K.Kind.answers (lent self.now) }
     {
-        if self.banks.len() < 1 || self.banks.len() > 64 {
+        if !(1..=64).contains(&self.banks.len()) {
             return Err(Refusal::TableLength(Table::Banks));
         }
-        if self.grants.len() < 1 || self.grants.len() > 1024 {
+        if !(1..=1024).contains(&self.grants.len()) {
             return Err(Refusal::TableLength(Table::Grants));
         }
         Ok(())

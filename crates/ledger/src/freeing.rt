@@ -13,7 +13,7 @@ use tables::{Bank, Grant};
 fn is_marked(marks: &[bool], row: usize) -> bool
     ensures { result ≡ marked marks.now row }
 {
-    row < marks.len() && marks[row]
+    marks.get(row).copied().unwrap_or(false)
 }
 
 // Is the row live, and marked?
