@@ -10,13 +10,6 @@ use crate::windows::{PLACES, Windows};
 use kind::Kind;
 use sets::Run;
 
-// Are the two runs the same?
-fn same_run(x: Run, y: Run) -> bool
-    ensures { Decides result ((x.from ≡ y.from) × (x.to ≡ y.to)) }
-{
-    x.from == y.from && x.to == y.to
-}
-
 impl Windows {
     // No second.
     fn none() -> Windows
@@ -67,17 +60,7 @@ impl Kind for Windows {
         ensures equal { Decides result (self.now ≡ other.now) }
         ensures by_members { Decides result (SameMembers second_count window self.now other.now) }
     {
-        for p in 0..PLACES {
-            let x = self.runs[p];
-            let y = other.runs[p];
-            if !same_run(x, y) {
-                return false;
-            }
-            if x.to == 0 {
-                return true;
-            }
-        }
-        true
+        self.runs() == other.runs()
     }
 
     fn fits(&self, other: &Self) -> bool {

@@ -26,29 +26,21 @@ impl Windows {
         Ok(Windows { runs })
     }
 
-    // Is this second in the set? An odd number of ends lies at or below it then.
+    // Is this second in the set?
     pub fn has(&self, second: u8) -> bool
         ensures { Decides result (window self.now second ≡ 1) }
     {
         let second = u16::from(second);
-        if second >= SECONDS {
-            return false;
-        }
-        let mut passed = 0;
-        'ends: while self.end(passed) <= second {
-            passed += 1;
-        }
-        passed % 2 == 1
+        self.runs()
+            .iter()
+            .any(|run| run.from <= second && second < run.to)
     }
 
     // The longest runs of the seconds, lowest first.
     pub fn runs(&self) -> &[Run]
         ensures { result.now ≡ window_runs self.now }
     {
-        let mut used = 0;
-        'used: while used < PLACES && self.runs[used].to > 0 {
-            used += 1;
-        }
-        &self.runs[0..used]
+        let used = self.runs.iter().take_while(|run| run.to > 0).count();
+        &self.runs[..used]
     }
 }
