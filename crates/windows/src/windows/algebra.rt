@@ -6,18 +6,15 @@ ghost use Rattle.windows.specs.WindowSets.{window, windows_of, Unites, windows_a
 ghost use Rattle.sets.proofs.Unions as unions;
 ghost use Rattle.windows.specs.WindowFacts.{window_sets};
 
-use crate::windows::{PLACES, Windows};
+use crate::windows::{NO_RUNS, Windows};
 use kind::Kind;
-use sets::Run;
 
 impl Windows {
     // No second.
     fn none() -> Windows
         ensures { result ≡ windows_of (λ _. 0) }
     {
-        Windows {
-            runs: [Run { from: 0, to: 0 }; PLACES],
-        }
+        Windows { runs: NO_RUNS }
     }
 }
 
@@ -52,6 +49,7 @@ impl Kind for Windows {
         Self::none()
     }
 
+    // The runs stand from the first place on, so one look tells.
     fn is_empty(&self) -> bool {
         self.runs[0].to == 0
     }
@@ -64,7 +62,7 @@ impl Kind for Windows {
     }
 
     fn fits(&self, other: &Self) -> bool {
-        !self.reaches(other, true)
+        !self.walk(other).any(|turn| turn.in_one && turn.in_other)
     }
 
     fn join(&self, other: &Self) -> Self {
@@ -76,7 +74,7 @@ impl Kind for Windows {
     }
 
     fn holds(&self, part: &Self) -> bool {
-        !part.reaches(self, false)
+        !part.walk(self).any(|turn| turn.in_one && !turn.in_other)
     }
 
     fn remainder(&self, part: &Self) -> Self {

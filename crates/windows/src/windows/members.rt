@@ -5,7 +5,7 @@ ghost use Rattle.std.specs.Prelude.{◌≡◌, IfOk, Decides};
 ghost use Rattle.windows.specs.Sizes.{second_count};
 ghost use Rattle.windows.specs.WindowSets.{window, make_windows, window_runs};
 
-use crate::windows::{PLACES, SECONDS, Windows};
+use crate::windows::{NO_RUNS, SECONDS, Windows};
 use kind::AmountRefusal;
 use sets::Run;
 
@@ -18,7 +18,7 @@ impl Windows {
         if from >= to || to > u32::from(SECONDS) {
             return Err(AmountRefusal::BadRun);
         }
-        let mut runs = [Run { from: 0, to: 0 }; PLACES];
+        let mut runs = NO_RUNS;
         runs[0] = Run {
             from: from as u16,
             to: to as u16,

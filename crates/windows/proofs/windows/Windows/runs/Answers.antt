@@ -11,6 +11,6 @@ pub returns : goal.returns
 returns c =
     let x = c.args.self.now in
     let t = c.take_while.ensures in
-    let counted = count_from_yields_List c.take_while.result _ c.count-used.ensures.ran
+    let counted = count_from_yields_List c.take_while.result c.count-used.result c.count-used.ensures.ran
     (YieldsList-from_take_while _ is_used (YieldsList-at t.source (YieldsList-from_slice x.runs cc)) t.closure t.done (λ y b q k. search (rules, tests))) in
     ap (λ u. take u x.runs) (counted ∙ length-prefix_len is_used x.runs) ∙ used_of x
