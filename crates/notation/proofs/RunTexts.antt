@@ -6,7 +6,8 @@ use Rattle.std.specs.Fmt.{HasWritten}
 use Rattle.std.specs.declared.fmt.Formatter.{Formatter}
 use Rattle.std.specs.List.{flat_map}
 use Rattle.sets.specs.declared.run.Run.{Run}
-use Rattle.notation.specs.Texts.{run_text, comma_run, runs_text}
+use Rattle.sets.specs.Texts.{run_text}
+use Rattle.notation.specs.Texts.{comma_run, runs_text}
 
 -- the texts of the first i, and then the next
 joined-take : {X : Type 0} (f : X → List ℕ) (xs : List X) (i : ℕ) (d : X)

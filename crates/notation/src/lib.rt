@@ -15,4 +15,4 @@ pub use numbers::{next_number, read_number};
 pub use pieces::{Pieces, first_piece};
 pub use spans::{Span, next_part, read_part, read_span};
 pub use words::same_bytes;
-pub use writing::{RunText, Runs};
+pub use writing::Runs;
