@@ -1,5 +1,5 @@
 -- The text of runs, and of spans as they are read. Assumes nothing.
-use Rattle.std.specs.Prelude.{ℕ, List, [], ◌∷◌, ◌++◌, Some, None, codes, decimal, Option}
+use Rattle.std.specs.Prelude.{ℕ, List, [], ◌∷◌, ◌++◌, Some, None, codes, Option}
 use Rattle.std.specs.List.{flat_map}
 use Rattle.sets.specs.Texts.{ends_text, run_text}
 use Rattle.sets.specs.declared.run.Run.{Run}
