@@ -16,7 +16,7 @@ pub fn read_number(bytes: &[u8]) -> Option<u32>
 }
 
 // The next piece, read as a number.
-// `next_part` is no second case of one function: to take the reader, that would require leave to call it.
+// Not one function with `next_part`: one that takes the reader would require that it may be called.
 pub fn next_number(source: &mut Pieces) -> Option<u32>
     ensures { Took number (left source.old) result (left source.new) }
 {
