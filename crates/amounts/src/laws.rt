@@ -4,5 +4,4 @@ ghost use Rattle.amounts.specs.Laws.{AmountsPrintAsRead};
 // An amount that was read is written as it was, but for leading zeros.
 pub fn amounts_print_as_read()
     ensures { AmountsPrintAsRead }
-{
-}
+{}

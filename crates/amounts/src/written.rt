@@ -1,8 +1,8 @@
 // An amount as it is written, and the amount that it stands for.
-ghost use Rattle.amounts.specs.Judging.{judged, judged_frames, judged_windows};
+ghost use Rattle.amounts.specs.Judging.{judged};
 ghost use Rattle.amounts.specs.Reading.{written, after_three};
 ghost use Rattle.notation.specs.Left.{left};
-ghost use Rattle.std.specs.Prelude.{◌≡◌};
+ghost use Rattle.std.specs.Prelude.{◌≡◌, Ok, MatchOption};
 
 use count::Count;
 use frames::Frames;
@@ -34,24 +34,15 @@ pub fn next_written(source: &mut Pieces) -> Option<Written>
     })
 }
 
-// The frames of a run, or no frame.
-fn frames_of(part: Option<Span>) -> Result<Frames, AmountRefusal>
-    ensures { result ≡ judged_frames part }
+// What is made of a run, or the empty amount.
+fn judge<K: Kind, F: FnOnce(u32, u32) -> Result<K, AmountRefusal>>(
+    part: Option<Span>,
+    from_run: F,
+) -> Result<K, AmountRefusal>
+    requires { F.IsAlwaysCallable from_run }
+    ensures { MatchOption part (result ≡ Ok K.answers.empty) (λ span. F.post from_run span.from span.to result) }
 {
-    match part {
-        Some(span) => Frames::from_run(span.from, span.to),
-        None => Ok(Frames::empty()),
-    }
-}
-
-// The seconds of a run, or no second.
-fn windows_of(part: Option<Span>) -> Result<Windows, AmountRefusal>
-    ensures { result ≡ judged_windows part }
-{
-    match part {
-        Some(span) => Windows::from_run(span.from, span.to),
-        None => Ok(Windows::empty()),
-    }
+    part.map_or(Ok(K::empty()), |span| from_run(span.from, span.to))
 }
 
 impl Written {
@@ -60,8 +51,8 @@ impl Written {
         ensures { result ≡ judged self.now }
     {
         let count = Count::try_from(self.count)?;
-        let frames = frames_of(self.frames)?;
-        let windows = windows_of(self.windows)?;
+        let frames = judge(self.frames, Frames::from_run)?;
+        let windows = judge(self.windows, Windows::from_run)?;
         Ok(engine_amount(count, frames, windows))
     }
 }

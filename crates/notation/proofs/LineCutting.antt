@@ -25,11 +25,6 @@ last_line : (p : List ℕ) → 0 < length p → without_last_empty (p ∷ []) �
 last_line [] some = absurd (omega arith)
 last_line (b ∷ p) some = refl
 
--- no bytes have no line
-pub no_line : (bs : List ℕ) → length bs ≡ 0 → lines bs ≡ []
-no_line [] none = refl
-no_line (b ∷ bs) none = absurd (omega arith)
-
 -- the first piece of some bytes is their first line, and the bytes after its mark, or none, have the other lines
 pub first-line : (bs p : List ℕ) (rest : Option (Bor (List ℕ))) (empty next : Bor (List ℕ))
     → 0 < length bs → empty.now ≡ [] → pieces 10 bs ≡ p ∷ after 10 rest → next ≡ unwrap_or rest empty → lines bs ≡ p ∷ lines next.now

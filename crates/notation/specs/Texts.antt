@@ -1,16 +1,9 @@
 -- The text of runs, and of spans as they are read. Assumes nothing.
-use Rattle.std.specs.Prelude.{ℕ, List, [], ◌∷◌, ◌++◌, Some, None, codes, decimal, Option}
+use Rattle.std.specs.Prelude.{ℕ, List, [], ◌∷◌, ◌++◌, Some, None, codes, Option}
 use Rattle.std.specs.List.{flat_map}
+use Rattle.sets.specs.Texts.{ends_text, run_text}
 use Rattle.sets.specs.declared.run.Run.{Run}
 use Rattle.notation.specs.declared.spans.Span.{Span}
-
--- the text `from..to`
-abbrev pub ends_text : ℕ → ℕ → List ℕ
-ends_text from to = decimal from ++ (codes ".." ++ decimal to)
-
--- the text of a run
-abbrev pub run_text : Run → List ℕ
-run_text r = ends_text r.from r.to
 
 -- the text of a run that follows another
 abbrev pub comma_run : Run → List ℕ

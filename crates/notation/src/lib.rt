@@ -6,7 +6,6 @@ mod lines;
 mod numbers;
 mod pieces;
 mod spans;
-mod words;
 mod writing;
 
 pub use laws::{cuts_exactly, does_as_meant, spans_read_back};
@@ -14,5 +13,4 @@ pub use lines::Lines;
 pub use numbers::{next_number, read_number};
 pub use pieces::{Pieces, first_piece};
 pub use spans::{Span, next_part, read_part, read_span};
-pub use words::same_bytes;
-pub use writing::{RunText, Runs};
+pub use writing::Runs;

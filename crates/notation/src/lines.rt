@@ -14,6 +14,7 @@ pub struct Lines<'a> {
 
 impl<'a> Lines<'a> {
     // All the lines, no more than there are bytes.
+    #[tactic(auto, using(crate::proofs::LineCutting::few_lines))]
     pub fn new(input: &'a [u8]) -> Self
         ensures value { lines_left result ≡ lines input.now }
         ensures bound { length (lines_left result) ≤ length input.now }

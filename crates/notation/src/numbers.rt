@@ -9,20 +9,14 @@ use crate::pieces::Pieces;
 pub fn read_number(bytes: &[u8]) -> Option<u32>
     ensures { result ≡ number bytes.now }
 {
-    if bytes.is_empty() || bytes.len() > 10 {
+    if bytes.len() > 10 || !bytes.iter().all(u8::is_ascii_digit) {
         return None;
     }
-    let mut value = 0u64;
-    for b in bytes {
-        if !b.is_ascii_digit() {
-            return None;
-        }
-        value = value * 10 + u64::from(*b - b'0');
-    }
-    u32::try_from(value).ok()
+    std::str::from_utf8(bytes).ok()?.parse().ok()
 }
 
 // The next piece, read as a number.
+// Not one function with `next_part`: one that takes the reader would require that it may be called.
 pub fn next_number(source: &mut Pieces) -> Option<u32>
     ensures { Took number (left source.old) result (left source.new) }
 {

@@ -33,10 +33,7 @@ impl<'a> Pieces<'a> {
     pub fn end_with<T: Drop>(mut self, value: T) -> Option<T>
         ensures { result ≡ end value (left self.entry) }
     {
-        match self.next_piece() {
-            None => Some(value),
-            Some(_) => None,
-        }
+        self.next_piece().is_none().then_some(value)
     }
 }
 
@@ -44,10 +41,8 @@ impl<'a> Pieces<'a> {
 pub fn first_piece(bytes: &[u8], mark: u8) -> (&[u8], Option<&[u8]>)
     ensures { pieces mark bytes.now ≡ result.0.now ∷ after mark result.1 }
 {
-    for (i, b) in bytes.iter().enumerate() {
-        if *b == mark {
-            return (&bytes[0..i], Some(&bytes[i + 1..]));
-        }
+    match bytes.iter().position(|b| *b == mark) {
+        Some(i) => (&bytes[..i], Some(&bytes[i + 1..])),
+        None => (bytes, None),
     }
-    (bytes, None)
 }

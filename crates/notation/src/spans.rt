@@ -5,9 +5,8 @@ ghost use Rattle.std.specs.Prelude.{◌≡◌};
 
 use crate::numbers::next_number;
 use crate::pieces::Pieces;
-use crate::words::same_bytes;
 
-// A run as it is written: its ends are not yet judged.
+// A run as it is written: not yet judged to be a `Run`, so a type of its own, with any ends of 32 bits.
 #[derive(Clone, Copy)]
 pub struct Span {
     pub from: u32,
@@ -31,10 +30,10 @@ pub fn read_span(bytes: &[u8]) -> Option<Span>
 pub fn read_part(bytes: &[u8]) -> Option<Option<Span>>
     ensures { result ≡ part bytes.now }
 {
-    if same_bytes(bytes, b"-") {
-        return Some(None);
+    match bytes {
+        b"-" => Some(None),
+        _ => read_span(bytes).map(Some),
     }
-    Some(Some(read_span(bytes)?))
 }
 
 // The next piece, read as a run or none.

@@ -1,9 +1,8 @@
 -- Runs place by place: the rules of their order, and the numbers they cover.
-use Rattle.std.proofs.Common.{◌≡◌, ℕ, zero, suc, ◌<◌, ◌≤◌, max, true, false, eqb, ltb, leb, List, [], ◌∷◌, length, sym, refl, ◌∙◌, subst, ⊎_elim, arith}
-use Rattle.std.proofs.lemmas.List.{ext_get_or}
-use Rattle.std.proofs.lemmas.Bool.{and_parts, and_from, cases_Bool, cases_eq, cases_lt, cond-true, cond-false, eqb-true, eq-eqb, leb-true, le-leb, ltb-true, lt-ltb}
+use Rattle.std.proofs.Common.{◌≡◌, ℕ, zero, suc, ◌<◌, ◌≤◌, max, true, false, eqb, ltb, leb, List, [], ◌∷◌, length, sym, refl, ◌∙◌, ⊎_elim, arith}
+use Rattle.std.proofs.lemmas.Bool.{and_parts, and_from, cases_Bool, cases_eq, cond-true, cond-false, eqb-true, eq-eqb, leb-true, le-leb, ltb-true, lt-ltb}
 use Rattle.sets.specs.Ends.{place}
-use Rattle.sets.specs.Runs.{blank, is_blank, within, covered, all_blank, ordered, tidy}
+use Rattle.sets.specs.Runs.{is_blank, within, covered, all_blank, ordered, tidy}
 use Rattle.sets.specs.declared.run.Run.{Run}
 
 -- of a place r and the next place s: r ends by n; it is unused or has a number; and where s is used, r is too, and ends below where s begins
@@ -136,28 +135,3 @@ pub covered_places : (rs : List Run) (k : ℕ) → covered rs k ≡ covered_to r
 unfolding covered covered_to
 covered_places [] k = refl
 covered_places (r ∷ rs) k = omega (arith, covered_places rs k, covered-cons r rs (length rs) k)
-
--- ---- past a blank place all is blank
-
-module _ (n : ℕ) (rs : List Run) (neat : AllNeat n rs) where
-  pub blank-after : (p : ℕ) → (place rs p).to ≡ 0 → (q : ℕ) → p ≤ q → ((place rs q).to ≡ 0) × ((place rs q).from ≡ 0)
-  blank-after p z zero h =
-      let here : (place rs 0).to ≡ 0 = subst (λ x. (place rs x).to ≡ 0) (omega arith) z in
-      (here, omega (arith, (neat 0).1.0))
-  blank-after p z (suc q) h =
-      ⊎_elim
-      (λ (lt : p < suc q).
-      let ih = blank-after p z q (omega arith) in
-      let x = neat q in
-      let y = neat (suc q) in
-      ⊎_elim (λ (e : (place rs (suc q)).to ≡ 0). (e, omega arith))
-      (λ (e : (place rs (suc q)).to ≡ 0 → ⊥). absurd (omega (arith, (x.1.1.1 (omega (arith, e))).0)))
-      (cases_eq (place rs (suc q)).to 0))
-      (λ (ge : suc q ≤ p).
-      let here : (place rs (suc q)).to ≡ 0 = subst (λ x. (place rs x).to ≡ 0) (omega arith) z in
-      (here, omega (arith, (neat (suc q)).1.0)))
-      (cases_lt p (suc q))
-
-pub same_places : (xs ys : List Run) → length xs ≡ length ys
-    → ((p : ℕ) → p < length xs → ((place xs p).from ≡ (place ys p).from) × ((place xs p).to ≡ (place ys p).to)) → xs ≡ ys
-same_places xs ys e h = ext_get_or blank xs ys e (λ p l. let w = h p l in λ i. record { from = w.0 i; to = w.1 i })

@@ -88,9 +88,3 @@ module _ (n m : ℕ) (xs : List Run) (t : Tidy n m xs) where
 
   pub few : (i : ℕ) → ((q : ℕ) → q < i → end_of n xs q ≤ n) → i ≤ m * 2
   few i h = ⊎_elim (λ (l : m * 2 < i). absurd (omega (arith, h (m * 2) l, end_past n m xs t (m * 2) (omega arith)))) (λ (l : i ≤ m * 2). l) (cases_lt (m * 2) i)
-
--- ---- at the end of one side no number is left in it
-
-pub ended : (n m : ℕ) (xs : List Run) (t : Tidy n m xs) (i k : ℕ) → k ≤ n → ((q : ℕ) → q < i → end_of n xs q ≤ k) → n < end_of n xs i → covered xs k ≡ 0
-ended n m xs t i k kn before last =
-    covered-at n m xs t i k kn before (omega arith) ∙ end_even n m xs t i (λ q l. omega (arith, before q l)) last

@@ -9,13 +9,8 @@ const LONGEST: usize = 32;
 pub fn read_name(bytes: &[u8]) -> Option<&str>
     ensures { option_map (λ x. x.now) result ≡ name bytes.now }
 {
-    if bytes.is_empty() || bytes.len() > LONGEST {
+    if bytes.is_empty() || bytes.len() > LONGEST || !bytes.iter().all(u8::is_ascii_graphic) {
         return None;
-    }
-    for b in bytes {
-        if !b.is_ascii_graphic() {
-            return None;
-        }
     }
     std::str::from_utf8(bytes).ok()
 }

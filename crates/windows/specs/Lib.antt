@@ -1,3 +1,4 @@
 pub mod Sizes
 pub mod WindowSets
 pub mod WindowFacts
+pub mod Walking

@@ -15,6 +15,9 @@ pub const SECONDS: u16 = 128;
 // Room for a run of one second at every other second.
 const PLACES: usize = 64;
 
+// No place in use.
+const NO_RUNS: [Run; PLACES] = [Run { from: 0, to: 0 }; PLACES];
+
 // The runs stand in rising order with a gap between each two; unused places are 0 and 0, at the end.
 #[derive(Clone, Copy, PartialEq, Eq)]
 pub struct Windows {

@@ -6,25 +6,15 @@ ghost use Rattle.windows.specs.WindowSets.{window, windows_of, Unites, windows_a
 ghost use Rattle.sets.proofs.Unions as unions;
 ghost use Rattle.windows.specs.WindowFacts.{window_sets};
 
-use crate::windows::{PLACES, Windows};
+use crate::windows::{NO_RUNS, Windows};
 use kind::Kind;
-use sets::Run;
-
-// Are the two runs the same?
-fn same_run(x: Run, y: Run) -> bool
-    ensures { Decides result ((x.from ≡ y.from) × (x.to ≡ y.to)) }
-{
-    x.from == y.from && x.to == y.to
-}
 
 impl Windows {
     // No second.
     fn none() -> Windows
         ensures { result ≡ windows_of (λ _. 0) }
     {
-        Windows {
-            runs: [Run { from: 0, to: 0 }; PLACES],
-        }
+        Windows { runs: NO_RUNS }
     }
 }
 
@@ -59,6 +49,7 @@ impl Kind for Windows {
         Self::none()
     }
 
+    // The runs stand from the first place on, so one look tells.
     fn is_empty(&self) -> bool {
         self.runs[0].to == 0
     }
@@ -67,21 +58,11 @@ impl Kind for Windows {
         ensures equal { Decides result (self.now ≡ other.now) }
         ensures by_members { Decides result (SameMembers second_count window self.now other.now) }
     {
-        for p in 0..PLACES {
-            let x = self.runs[p];
-            let y = other.runs[p];
-            if !same_run(x, y) {
-                return false;
-            }
-            if x.to == 0 {
-                return true;
-            }
-        }
-        true
+        self.runs() == other.runs()
     }
 
     fn fits(&self, other: &Self) -> bool {
-        !self.reaches(other, true)
+        !self.walk(other).any(|turn| turn.in_one && turn.in_other)
     }
 
     fn join(&self, other: &Self) -> Self {
@@ -93,7 +74,7 @@ impl Kind for Windows {
     }
 
     fn holds(&self, part: &Self) -> bool {
-        !part.reaches(self, false)
+        !part.walk(self).any(|turn| turn.in_one && !turn.in_other)
     }
 
     fn remainder(&self, part: &Self) -> Self {

@@ -5,7 +5,7 @@ ghost use Rattle.std.specs.Prelude.{◌≡◌, IfOk, Decides};
 ghost use Rattle.windows.specs.Sizes.{second_count};
 ghost use Rattle.windows.specs.WindowSets.{window, make_windows, window_runs};
 
-use crate::windows::{PLACES, SECONDS, Windows};
+use crate::windows::{NO_RUNS, SECONDS, Windows};
 use kind::AmountRefusal;
 use sets::Run;
 
@@ -18,7 +18,7 @@ impl Windows {
         if from >= to || to > u32::from(SECONDS) {
             return Err(AmountRefusal::BadRun);
         }
-        let mut runs = [Run { from: 0, to: 0 }; PLACES];
+        let mut runs = NO_RUNS;
         runs[0] = Run {
             from: from as u16,
             to: to as u16,
@@ -26,29 +26,21 @@ impl Windows {
         Ok(Windows { runs })
     }
 
-    // Is this second in the set? An odd number of ends lies at or below it then.
+    // Is this second in the set?
     pub fn has(&self, second: u8) -> bool
         ensures { Decides result (window self.now second ≡ 1) }
     {
         let second = u16::from(second);
-        if second >= SECONDS {
-            return false;
-        }
-        let mut passed = 0;
-        'ends: while self.end(passed) <= second {
-            passed += 1;
-        }
-        passed % 2 == 1
+        self.runs()
+            .iter()
+            .any(|run| run.from <= second && second < run.to)
     }
 
     // The longest runs of the seconds, lowest first.
     pub fn runs(&self) -> &[Run]
         ensures { result.now ≡ window_runs self.now }
     {
-        let mut used = 0;
-        'used: while used < PLACES && self.runs[used].to > 0 {
-            used += 1;
-        }
-        &self.runs[0..used]
+        let used = self.runs.iter().take_while(|run| run.to > 0).count();
+        &self.runs[..used]
     }
 }

@@ -1,12 +1,59 @@
-// A walk over the ends of the runs of two sets, the lower end first.
-ghost use Rattle.std.specs.Prelude.{◌≡◌, ℕ, ◌+◌, ◌*◌, ◌<◌, ◌≤◌, true, false, not, if◌then◌else◌, Decides, ◌==◌, ◌≢◌};
-ghost use Rattle.sets.specs.Ends.{end_of, end_in_place};
+// A walk over the ends of the runs of two sets, the lowest first.
+ghost use Rattle.std.specs.Prelude.{◌≡◌, ℕ, ◌+◌, ◌-◌, ◌*◌, ◌<◌, true, ◌≢◌};
+ghost use Rattle.std.specs.Iterator.{at_most};
+ghost use Rattle.sets.specs.Ends.{end_in_place};
 ghost use Rattle.sets.specs.Members.{OneOfTwo};
 ghost use Rattle.windows.specs.Sizes.{second_count, window_places};
-ghost use Rattle.windows.specs.WindowSets.{window, Reaches, windows_answers};
+ghost use Rattle.windows.specs.Walking.{GivesEnd, WalksOn, start_of};
+ghost use Rattle.windows.specs.WindowSets.{window, windows_answers};
 
-use crate::windows::{PLACES, SECONDS, Windows};
+use crate::windows::{NO_RUNS, PLACES, Windows};
 use sets::Run;
+
+// A second from which on one of two sets has the seconds, or has them no more.
+#[derive(Clone, Copy)]
+pub(crate) struct Turn {
+    pub(crate) at: u16,
+    pub(crate) in_one: bool,
+    pub(crate) in_other: bool,
+}
+
+// The turns of two sets, one after another.
+#[derive(Drop)]
+pub(crate) struct Walk<'a> {
+    one: &'a Windows,
+    other: &'a Windows,
+    passed_in_one: usize,
+    passed_in_other: usize,
+}
+
+impl Iterator for Walk<'_> {
+    type Item = Turn;
+
+    ghost next_gives = { WalksOn };
+
+    ghost remaining = { λ w. at_most ((window_places * 2 - w.passed_in_one) + (window_places * 2 - w.passed_in_other)) };
+
+    fn next(&mut self) -> Option<Turn> {
+        let one = self.one.end(self.passed_in_one);
+        let other = self.other.end(self.passed_in_other);
+        let at = match (one, other) {
+            (Some(one), Some(other)) => one.min(other),
+            _ => one.or(other)?,
+        };
+        if one == Some(at) {
+            self.passed_in_one += 1;
+        }
+        if other == Some(at) {
+            self.passed_in_other += 1;
+        }
+        Some(Turn {
+            at,
+            in_one: self.passed_in_one % 2 == 1,
+            in_other: self.passed_in_other % 2 == 1,
+        })
+    }
+}
 
 // Writes end `q` of the runs: a `from` if `q` is even, else a `to`.
 fn put_end(runs: &mut [Run; PLACES], q: usize, at: u16)
@@ -14,68 +61,33 @@ fn put_end(runs: &mut [Run; PLACES], q: usize, at: u16)
     ensures here { end_in_place runs.new q ≡ at }
     ensures others { (j : ℕ) → (j ≢ q) → end_in_place runs.new j ≡ end_in_place runs.old j }
 {
-    let mut run = runs[q / 2];
+    let run = &mut runs[q / 2];
     if q % 2 == 0 {
         run.from = at;
     } else {
         run.to = at;
     }
-    runs[q / 2] = run;
-}
-
-// Do the two ends cancel out? An end that both sets have is none of their difference, so runs that touch become one.
-fn cancel(a: u16, b: u16) -> bool
-    ensures { result ≡ (a == b) }
-{
-    a == b
 }
 
 impl Windows {
-    // End `i` of the runs, `from` and `to` by turns; past the last, `SECONDS` + 1.
-    pub(crate) fn end(&self, i: usize) -> u16
-        ensures value { result ≡ end_of second_count self.now.runs i }
-        ensures top { result ≤ second_count + 1 }
-        ensures within { result ≤ second_count → i < window_places * 2 }
+    // End `i` of the runs, `from` and `to` by turns, if there are so many.
+    fn end(&self, i: usize) -> Option<u16>
+        ensures { GivesEnd self.now i result }
     {
-        if i / 2 >= PLACES {
-            return SECONDS + 1;
-        }
-        let run = self.runs[i / 2];
-        if run.to == 0 {
-            SECONDS + 1
-        } else if i % 2 == 0 {
-            run.from
-        } else {
-            run.to
-        }
+        let run = self.runs.get(i / 2)?;
+        let end = if i % 2 == 0 { run.from } else { run.to };
+        (run.to > 0).then_some(end)
     }
 
-    // Is some second of this inside `other`, or outside it, as `inside` says?
-    pub(crate) fn reaches(&self, other: &Windows, inside: bool) -> bool
-        ensures found { Decides result (Reaches self.now other.now (if inside then 1 else 0)) }
-        ensures fits { inside ≡ true → not result ≡ windows_answers.fits self.now other.now }
-        ensures holds { inside ≡ false → not result ≡ windows_answers.holds other.now self.now }
+    // The walk over this set and another.
+    pub(crate) fn walk<'a>(&'a self, other: &'a Windows) -> Walk<'a>
+        ensures { result ≡ start_of self.entry other.entry }
     {
-        let mut i = 0;
-        let mut j = 0;
-        'walk: loop {
-            let a = self.end(i);
-            if a > SECONDS {
-                return false;
-            }
-            let b = other.end(j);
-            if inside && b > SECONDS {
-                return false;
-            }
-            if a <= b {
-                i += 1;
-            }
-            if b <= a {
-                j += 1;
-            }
-            if i % 2 == 1 && (j % 2 == 1) == inside {
-                return true;
-            }
+        Walk {
+            one: self,
+            other,
+            passed_in_one: 0,
+            passed_in_other: 0,
         }
     }
 
@@ -85,28 +97,17 @@ impl Windows {
         ensures joined { windows_answers.fits self.now other.now ≡ true → result ≡ windows_answers.join self.now other.now }
         ensures left { windows_answers.holds self.now other.now ≡ true → result ≡ windows_answers.remainder self.now other.now }
     {
-        let mut runs = [Run { from: 0, to: 0 }; PLACES];
-        let mut i = 0;
-        let mut j = 0;
-        let mut n = 0;
-        'walk: loop {
-            let a = self.end(i);
-            let b = other.end(j);
-            if a > SECONDS && b > SECONDS {
-                return Windows { runs };
-            }
-            if cancel(a, b) {
-                i += 1;
-                j += 1;
-            } else if a < b {
-                put_end(&mut runs, n, a);
-                n += 1;
-                i += 1;
-            } else {
-                put_end(&mut runs, n, b);
-                n += 1;
-                j += 1;
+        let mut runs = NO_RUNS;
+        let mut ends = 0;
+        for turn in self.walk(other) {
+            let inside = turn.in_one != turn.in_other;
+            let open = ends % 2 == 1;
+            // An end that both sets have is none of the difference, so runs that touch become one.
+            if inside != open {
+                put_end(&mut runs, ends, turn.at);
+                ends += 1;
             }
         }
+        Windows { runs }
     }
 }

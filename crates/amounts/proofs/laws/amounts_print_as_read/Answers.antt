@@ -1,4 +1,4 @@
-use Rattle.std.proofs.Common.{◌≡◌, ℕ, zero, suc, Bool, true, false, cond, ltb, leb, List, [], ◌∷◌, ◌++◌, Some, None, Ok, Err, codes, decimal, Option, Result, sym, refl, ap, ◌∙◌, arith}
+use Rattle.std.proofs.Common.{◌≡◌, ℕ, zero, suc, Bool, true, false, cond, ltb, leb, [], ◌∷◌, Some, None, Ok, Err, Option, Result, sym, refl, ap, ◌∙◌}
 use Rattle.std.proofs.lemmas.List.{append-nil}
 use Rattle.std.proofs.lemmas.Bool.{and_parts, leb-true, ltb-true}
 use Rattle.kinds.specs.Bundles.{both}
@@ -24,7 +24,7 @@ use Rattle.amounts.proofs.laws.amounts_print_as_read.Goals as goal
 -- what is made of a value that a test lets pass
 made_if : {X E : Type 0} (b : Bool) (x y : X) (e : E) → cond b (Ok x) (Err e) ≡ Ok y → (b ≡ true) × (x ≡ y)
 made_if true x y e h = (refl, cc)
-made_if false x y e h = absurd (let z : ◌≡◌ {A = ℕ} 0 1 = cc in omega arith)
+made_if false x y e h = absurd (cc)
 
 count_text : (n : ℕ) (c : Count) → make_count n ≡ Ok c → c.value ≡ n
 count_text n c h =
@@ -63,25 +63,18 @@ windows_text (Some s) x h =
 -- what was judged well was judged well in each part
 then_ok : {X Y E : Type 0} (r : Result X E) (k : X → Result Y E) (y : Y) → and_then r k ≡ Ok y → (x : X) × (r ≡ Ok x) × (k x ≡ Ok y)
 then_ok (Ok x) k y h = (x, refl, h)
-then_ok (Err e) k y h = absurd (let z : ◌≡◌ {A = ℕ} 0 1 = cc in omega arith)
-
-abbrev text_of : ℕ → List ℕ → List ℕ → List ℕ
-text_of n f w = decimal n ++ (codes " " ++ (f ++ (codes " " ++ w)))
+then_ok (Err e) k y h = absurd (cc)
 
 print_as_read : AmountsPrintAsRead
 print_as_read w a h =
     let c = then_ok (make_count w.count) _ a h in
     let f = then_ok (judged_frames w.frames) _ a c.2 in
     let g = then_ok (judged_windows w.windows) _ a f.2 in
-    let is : both c.0 (both f.0 g.0) ≡ a = made_ok g.2 in
-    ap amount_text (sym is)
-    ∙ ap₃ text_of (count_text w.count c.0 c.1) (frames_text w.frames f.0 f.1) (windows_text w.windows g.0 g.1)
-  where
-    made_ok : {X E : Type 0} {x y : X} → ◌≡◌ {A = Result X E} (Ok x) (Ok y) → x ≡ y
-    made_ok e = cc
-
-    ap₃ : (t : ℕ → List ℕ → List ℕ → List ℕ) {n m : ℕ} {f g v u : List ℕ} → n ≡ m → f ≡ g → v ≡ u → t n f v ≡ t m g u
-    ap₃ t p q r = λ i. t (p i) (q i) (r i)
+    let is : both c.0 (both f.0 g.0) ≡ a = cc in
+    let count = count_text w.count c.0 c.1 in
+    let frames = frames_text w.frames f.0 f.1 in
+    let windows = windows_text w.windows g.0 g.1 in
+    ap amount_text (sym is) ∙ cc
 
 pub returns : goal.returns
 returns c = print_as_read

@@ -1,11 +1,8 @@
--- Where no bytes are left there is no line, and else the first piece is the first line and one line fewer is left.
+-- The first piece is the first line, and one line fewer is left.
 use Rattle.std.proofs.Common.{length, ap, arith, rules, false-eqb}
-use Rattle.notation.proofs.LineCutting.{no_line, first-line}
+use Rattle.notation.proofs.LineCutting.{first-line}
 use Rattle.notation.proofs.lines.LinesIterator.next.Goals as goal
 use Rattle.std.proofs.iter.Next.{firm}
-
-pub returns-then-is_empty : goal.returns-then-is_empty
-returns-then-is_empty c = search (rules, no_line)
 
 pub returns : goal.returns
 returns c =

@@ -1,0 +1,3 @@
+pub mod WindowRuns
+pub mod Turns
+pub mod Differences
