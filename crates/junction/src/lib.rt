@@ -5,4 +5,4 @@ mod laws;
 mod verdict;
 
 pub use laws::verdicts_are_right;
-pub use verdict::{Verdict, add};
+pub use verdict::{Conflict, add};
