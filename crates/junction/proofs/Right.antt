@@ -12,8 +12,8 @@ use Rattle.sets.specs.Members.{apart}
 use Rattle.kind.proofs.Decisions.{not_so}
 use Rattle.kinds.specs.Engine.{Engine, engine_answers}
 use Rattle.junction.specs.Verdicts.{first_shared, clear_of, verdict, held_after, Right}
-use Rattle.junction.specs.declared.verdict.Conflict.{Conflict}
-use Rattle.junction.specs.declared.verdict.Conflict.TheVariants.{TooManyVehicles, FrameHeld, SecondHeld}
+use Rattle.junction.specs.declared.conflict.Conflict.{Conflict}
+use Rattle.junction.specs.declared.conflict.Conflict.TheVariants.{TooManyVehicles, FrameHeld, SecondHeld}
 use Rattle.junction.proofs.Shared.{shared_found}
 
 -- sets that share no number are apart, and sets that share one are not

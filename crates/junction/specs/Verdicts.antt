@@ -8,8 +8,8 @@ use Rattle.frames.specs.Sizes.{frame_count}
 use Rattle.windows.specs.WindowSets.{window}
 use Rattle.windows.specs.Sizes.{second_count}
 use Rattle.kinds.specs.Engine.{Engine, engine_answers}
-use Rattle.junction.specs.declared.verdict.Conflict.{Conflict}
-use Rattle.junction.specs.declared.verdict.Conflict.TheVariants.{TooManyVehicles, FrameHeld, SecondHeld}
+use Rattle.junction.specs.declared.conflict.Conflict.{Conflict}
+use Rattle.junction.specs.declared.conflict.Conflict.TheVariants.{TooManyVehicles, FrameHeld, SecondHeld}
 
 -- the first number below n that is in both
 unfoldable pub first_shared : ℕ → (ℕ → ℕ) → (ℕ → ℕ) → Option ℕ

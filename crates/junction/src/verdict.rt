@@ -6,18 +6,11 @@ ghost use Rattle.windows.specs.Sizes.{second_count};
 ghost use Rattle.windows.specs.WindowSets.{window};
 ghost use Rattle.std.specs.Prelude.{◌≡◌};
 
+use crate::conflict::Conflict;
 use frames::{FRAMES, Frames};
 use kind::Kind;
 use kinds::EngineAmount;
 use windows::{SECONDS, Windows};
-
-// What is in the way of a stage: there are too many vehicles, or the first frame or second that it wants is held.
-#[derive(Clone, Copy, Debug, PartialEq, Eq)]
-pub enum Conflict {
-    TooManyVehicles,
-    FrameHeld(u16),
-    SecondHeld(u16),
-}
 
 // The first frame that both have.
 #[tactic(auto, unfolding(crate::specs::Verdicts::first_shared))]
