@@ -1,1 +1,2 @@
+mod Right
 mod Shared

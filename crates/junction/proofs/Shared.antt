@@ -1,49 +1,31 @@
--- The first number that two sets share, looked for from the lowest on.
-use Rattle.std.proofs.Common.{◌≡◌, ℕ, zero, suc, ◌+◌, ◌-◌, ◌<◌, ◌≤◌, eqb, ◌⊎◌, sym, ap, ◌∙◌, inl, inr, ⊎_elim, arith}
-use Rattle.std.proofs.lemmas.Bool.{true≢false, and_parts, and_from, cases_Bool, cases_eq, cond-true, cond-false, eqb-true, eq-eqb}
+-- The first number that two sets share is in both, and where there is none, no number is.
+use Rattle.std.proofs.Common.{◌≡◌, ℕ, zero, suc, ◌+◌, ◌<◌, ◌≤◌, Bool, true, false, cond, eqb, ◌&&◌, Some, None, MatchOption, find, Option, refl, ap, sym, ◌∙◌, ⊎_elim, arith}
+use Rattle.std.proofs.lemmas.Bool.{true≢false, and_parts, and_from, cases_eq, eqb-true, eq-eqb}
+use Rattle.std.specs.List.{range_with_len}
 use Rattle.junction.specs.Verdicts.{first_shared}
 
-module _ (f g : ℕ → ℕ) where
-  -- k is shared, or the search goes on
-  step : (d k : ℕ) → ((f k ≡ 1) × (g k ≡ 1) × (first_shared f g (suc d) k ≡ k))
-      ⊎ ((f k ≡ 1 → g k ≡ 1 → ⊥) × (first_shared f g (suc d) k ≡ first_shared f g d (suc k)))
-  unfolding first_shared
-  step d k =
-      ⊎_elim
-      (λ e. let p = and_parts (eqb (f k) 1) (eqb (g k) 1) e in inl (eqb-true _ _ p.0, eqb-true _ _ p.1, cond-true _ _ _ e))
-      (λ e. inr (λ a b. true≢false (sym (and_from _ _ (eq-eqb (f k) 1 a) (eq-eqb (g k) 1 b)) ∙ e), cond-false _ _ _ e))
-      (cases_Bool _)
+module _ (p : ℕ → Bool) where
+  abbrev Found : ℕ → ℕ → Option ℕ → Type 0
+  Found d k r = MatchOption r ((j : ℕ) → k ≤ j → j < k + d → p j ≡ false) (λ i. (i < k + d) × (p i ≡ true))
 
-  pub shared_here : (n k : ℕ) → k < n → f k ≡ 1 → g k ≡ 1 → k ≡ first_shared f g (n - k) k
-  shared_here n k lt a b =
-      let more : n - k ≡ suc (n - suc k) = omega arith in
-      ⊎_elim (λ h. sym (ap (λ d. first_shared f g d k) more ∙ h.2)) (λ h. absurd (h.0 a b)) (step (n - suc k) k)
+  -- the d numbers from k on
+  found : (d k : ℕ) → Found d k (find p (range_with_len k d))
+  found zero k = λ j ge lt. absurd (omega arith)
+  found (suc d) k = by (p k) refl (find p (range_with_len (k + 1) d)) (found d (k + 1))
+    where
+      by : (b : Bool) → p k ≡ b → (r : Option ℕ) → Found d (k + 1) r → Found (suc d) k (cond b (Some k) r)
+      by true e r h = (omega arith, e)
+      by false e None h = λ j ge lt. ⊎_elim (λ (is : j ≡ k). ap p is ∙ e) (λ (ne : j ≡ k → ⊥). h j (omega (arith, ne)) (omega arith)) (cases_eq j k)
+      by false e (Some i) h = (omega (arith, h.0), h.1)
 
-  pub shared_next : (n k : ℕ) → k < n → (f k ≡ 1 → g k ≡ 1 → ⊥) → first_shared f g (n - (k + 1)) (k + 1) ≡ first_shared f g (n - k) k
-  shared_next n k lt out =
-      let more : n - k ≡ suc (n - suc k) = omega arith in
-      let one : k + 1 ≡ suc k = omega arith in
-      ap (λ j. first_shared f g (n - j) j) one
-      ∙ ⊎_elim (λ h. absurd (out h.0 h.1)) (λ h. sym (ap (λ d. first_shared f g d k) more ∙ h.1)) (step (n - suc k) k)
+pub shared_found : (n : ℕ) (f g : ℕ → ℕ)
+    → MatchOption (first_shared n f g) ((k : ℕ) → k < n → f k ≡ 1 → g k ≡ 1 → ⊥) (λ k. (k < n) × (f k ≡ 1) × (g k ≡ 1))
+unfolding first_shared
+shared_found n f g = by (find p (range_with_len 0 n)) (found p n 0)
+  where
+    p : ℕ → Bool
+    p k = eqb (f k) 1 && eqb (g k) 1
 
-  pub shared_end : (n k : ℕ) → k ≡ n → n ≡ first_shared f g (n - k) k
-  unfolding first_shared
-  shared_end n k e = let none : n - k ≡ 0 = omega arith in sym (ap (λ d. first_shared f g d k) none ∙ e)
-
-  -- one is found, or there is none
-  pub shared_found : (d k : ℕ) → ((first_shared f g d k < k + d) × (f (first_shared f g d k) ≡ 1) × (g (first_shared f g d k) ≡ 1))
-      ⊎ ((j : ℕ) → k ≤ j → j < k + d → f j ≡ 1 → g j ≡ 1 → ⊥)
-  shared_found zero k = inr (λ j ge lt. absurd (omega arith))
-  shared_found (suc d) k =
-      ⊎_elim
-      (λ h. let is = h.2 in inl (omega arith, ap f is ∙ h.0, ap g is ∙ h.1))
-      (λ h.
-      let is = h.1 in
-      ⊎_elim
-      (λ w. inl (omega (arith, w.0), ap f is ∙ w.1, ap g is ∙ w.2))
-      (λ w. inr (λ j ge lt a b. ⊎_elim
-      (λ (e : j ≡ k). h.0 (ap f (sym e) ∙ a) (ap g (sym e) ∙ b))
-      (λ (ne : j ≡ k → ⊥). w j (omega (arith, ne)) (omega arith) a b)
-      (cases_eq j k)))
-      (shared_found d (suc k)))
-      (step d k)
+    by : (r : Option ℕ) → Found p n 0 r → MatchOption r ((k : ℕ) → k < n → f k ≡ 1 → g k ≡ 1 → ⊥) (λ k. (k < n) × (f k ≡ 1) × (g k ≡ 1))
+    by None h = λ k lt a b. true≢false (sym (and_from _ _ (eq-eqb (f k) 1 a) (eq-eqb (g k) 1 b)) ∙ h k (omega arith) (omega arith))
+    by (Some k) h = let q = and_parts (eqb (f k) 1) (eqb (g k) 1) h.1 in (omega (arith, h.0), eqb-true _ _ q.0, eqb-true _ _ q.1)

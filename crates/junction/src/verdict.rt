@@ -1,73 +1,56 @@
 // What a junction holds, and whether a stage fits.
 ghost use Rattle.frames.specs.FrameSets.{frame};
 ghost use Rattle.frames.specs.Sizes.{frame_count};
-ghost use Rattle.junction.specs.Verdicts.{first_shared, verdict, held_after};
+ghost use Rattle.junction.specs.Verdicts.{first_shared, held_after, verdict};
 ghost use Rattle.windows.specs.Sizes.{second_count};
 ghost use Rattle.windows.specs.WindowSets.{window};
 ghost use Rattle.std.specs.Prelude.{◌≡◌};
 
-use frames::Frames;
+use crate::conflict::Conflict;
+use frames::{FRAMES, Frames};
 use kind::Kind;
 use kinds::EngineAmount;
-use windows::Windows;
+use windows::{SECONDS, Windows};
 
-// A stage is added, or something is in its way.
-#[derive(Clone, Copy)]
-pub enum Verdict {
-    Added,
-    TooManyVehicles,
-    FrameHeld(u16),
-    SecondHeld(u16),
-}
-
-// The first frame that both have, or 256.
-fn shared_frame(held: &Frames, wanted: &Frames) -> u16
-    ensures { result ≡ first_shared (frame held.now) (frame wanted.now) frame_count 0 }
+// The first frame that both have.
+#[tactic(auto, unfolding(crate::specs::Verdicts::first_shared))]
+fn shared_frame(held: &Frames, wanted: &Frames) -> Option<u16>
+    ensures { result ≡ first_shared frame_count (frame held.now) (frame wanted.now) }
 {
-    for k in 0..256 {
-        if held.has(k as u8) && wanted.has(k as u8) {
-            return k;
-        }
-    }
-    256
+    (0..FRAMES as u16).find(|k| held.has(*k as u8) && wanted.has(*k as u8))
 }
 
-// The first second that both have, or 128.
-fn shared_second(held: &Windows, wanted: &Windows) -> u16
-    ensures { result ≡ first_shared (window held.now) (window wanted.now) second_count 0 }
+// The first second that both have. The two types share no trait that has `has`, and one for these two lines would be longer.
+#[tactic(auto, unfolding(crate::specs::Verdicts::first_shared))]
+fn shared_second(held: &Windows, wanted: &Windows) -> Option<u16>
+    ensures { result ≡ first_shared second_count (window held.now) (window wanted.now) }
 {
-    for k in 0..128 {
-        if held.has(k as u8) && wanted.has(k as u8) {
-            return k;
-        }
-    }
-    128
+    (0..SECONDS).find(|k| held.has(*k as u8) && wanted.has(*k as u8))
 }
 
-// What comes of a stage that takes `wanted`: vehicles are looked at first, then frames, then seconds.
-fn judge(held: &EngineAmount, wanted: &EngineAmount) -> Verdict
+// Whether a stage that takes `wanted` fits: vehicles are looked at first, then frames, then seconds.
+fn judge(held: &EngineAmount, wanted: &EngineAmount) -> Result<(), Conflict>
     ensures { result ≡ verdict held.now wanted.now }
 {
     if !held.first.fits(&wanted.first) {
-        return Verdict::TooManyVehicles;
+        return Err(Conflict::TooManyVehicles);
     }
-    if !held.second.first.fits(&wanted.second.first) {
-        return Verdict::FrameHeld(shared_frame(&held.second.first, &wanted.second.first));
+    if let Some(frame) = shared_frame(&held.second.first, &wanted.second.first) {
+        return Err(Conflict::FrameHeld(frame));
     }
-    if !held.second.second.fits(&wanted.second.second) {
-        return Verdict::SecondHeld(shared_second(&held.second.second, &wanted.second.second));
+    if let Some(second) = shared_second(&held.second.second, &wanted.second.second) {
+        return Err(Conflict::SecondHeld(second));
     }
-    Verdict::Added
+    Ok(())
 }
 
 // Adds what a stage takes to what is held, if it fits.
-pub fn add(held: &mut EngineAmount, wanted: &EngineAmount) -> Verdict
+#[tactic(auto, using(crate::proofs::Right::added, crate::proofs::Right::refused))]
+pub fn add(held: &mut EngineAmount, wanted: &EngineAmount) -> Result<(), Conflict>
     ensures verdict { result ≡ verdict held.old wanted.now }
     ensures held { held.new ≡ held_after held.old wanted.now }
 {
-    let verdict = judge(held, wanted);
-    if held.fits(wanted) {
-        *held = held.join(wanted);
-    }
-    verdict
+    judge(held, wanted)?;
+    *held = held.join(wanted);
+    Ok(())
 }

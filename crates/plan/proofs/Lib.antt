@@ -1,3 +1,2 @@
 mod Balance
 mod FullCycle
-mod Texts

@@ -16,8 +16,10 @@ use Rattle.kinds.specs.Engine.{Engine, engine_answers}
 use Rattle.amounts.specs.Judging.{judged}
 use Rattle.stages.specs.Stages.{Named, stage}
 use Rattle.junction.specs.Verdicts.{verdict, held_after}
-use Rattle.junction.specs.declared.verdict.Verdict.{Verdict}
-use Rattle.junction.specs.declared.verdict.Verdict.TheVariants.{Added, TooManyVehicles, FrameHeld, SecondHeld}
+use Rattle.junction.specs.Conflicts.{conflict_text}
+use Rattle.junction.specs.declared.conflict.Conflict.{Conflict}
+use Rattle.plan.specs.declared.line.LineReport.{LineReport}
+use Rattle.plan.specs.declared.line.LineReport.TheVariants.{Unread, Refused, Judged}
 
 -- an amount in words
 abbrev pub words_text : Engine → List ℕ
@@ -34,11 +36,9 @@ abbrev pub left_over : Engine → Engine
 left_over held = engine_answers.remainder full_cycle held
 
 -- a verdict in words
-abbrev pub verdict_text : Verdict → List ℕ
-verdict_text Added = codes "added"
-verdict_text TooManyVehicles = codes "does not fit, too many vehicles"
-verdict_text (FrameHeld k) = codes "does not fit, frame " ++ (decimal k ++ codes " is already held")
-verdict_text (SecondHeld k) = codes "does not fit, second " ++ (decimal k ++ codes " is already held")
+abbrev pub verdict_text : Result (Unit {0}) Conflict → List ℕ
+verdict_text (Ok _) = codes "added"
+verdict_text (Err c) = codes "does not fit, " ++ conflict_text c
 
 -- why an amount is refused
 abbrev pub reason_text : AmountRefusal → List ℕ
@@ -50,47 +50,46 @@ abbrev pub refusal_text : AmountRefusal → List ℕ
 refusal_text e =
     codes "refused with " ++ (decimal (amount_refusal e).number ++ (codes " at " ++ (decimal (amount_refusal e).place ++ (codes ", " ++ reason_text e))))
 
--- a line that cannot be read
-abbrev pub unread_text : ℕ → List ℕ
-unread_text n = codes "line " ++ (decimal n ++ codes ": cannot be read\n")
+-- a line that cannot be read, a stage whose amount is refused, and a stage that is judged
+abbrev pub unread_text : List ℕ
+unread_text = codes "cannot be read"
 
--- a stage whose amount is refused
-abbrev pub refused_text : ℕ → List ℕ → AmountRefusal → List ℕ
-refused_text n called e = codes "line " ++ (decimal n ++ (codes ": " ++ (called ++ (codes " is " ++ (refusal_text e ++ codes "\n")))))
+abbrev pub refused_text : List ℕ → AmountRefusal → List ℕ
+refused_text called e = called ++ (codes " is " ++ refusal_text e)
 
--- a stage that is judged
-abbrev pub judged_text : ℕ → List ℕ → Engine → Verdict → List ℕ
-judged_text n called a v =
-    codes "line " ++ (decimal n ++ (codes ": " ++ (called ++ (codes " takes " ++ (words_text a ++ (codes ": " ++ (verdict_text v ++ codes "\n")))))))
+abbrev pub judged_text : List ℕ → Engine → Result (Unit {0}) Conflict → List ℕ
+judged_text called a v = called ++ (codes " takes " ++ (words_text a ++ (codes ": " ++ verdict_text v)))
 
--- what is held, and what is left
-abbrev pub held_text : Engine → List ℕ
-held_text held = codes "held: " ++ (words_text held ++ codes "\n")
+abbrev pub report_text : LineReport → List ℕ
+report_text Unread = unread_text
+report_text (Refused name e) = refused_text name.now e
+report_text (Judged name a v) = judged_text name.now a v
 
-abbrev pub left_text : Engine → List ℕ
-left_text left = codes "left of a full cycle: " ++ (words_text left ++ codes "\n")
-
--- the end of the report
+-- the end of the report: what is held, and what is left
 abbrev pub end_text : Engine → List ℕ
-end_text held = held_text held ++ left_text (left_over held)
+end_text held = codes "held: " ++ (words_text held ++ (codes "\nleft of a full cycle: " ++ (words_text (left_over held) ++ codes "\n")))
 
--- what is printed of a stage on line n, and what is held after it
-abbrev pub amount_line : ℕ → Engine → List ℕ → Result Engine AmountRefusal → List ℕ
-amount_line n held called (Ok a) = judged_text n called a (verdict held a)
-amount_line n held called (Err e) = refused_text n called e
+-- what is reported of a stage, and what is held after it
+abbrev pub amount_report : Engine → List ℕ → Result Engine AmountRefusal → List ℕ
+amount_report held called (Ok a) = judged_text called a (verdict held a)
+amount_report held called (Err e) = refused_text called e
 
 abbrev pub held_then : Engine → Result Engine AmountRefusal → Engine
 held_then held (Ok a) = held_after held a
 held_then held (Err e) = held
 
--- what is printed of line n, and what is held after it
-abbrev pub line_text : ℕ → Engine → Option Named → List ℕ
-line_text n held None = unread_text n
-line_text n held (Some s) = amount_line n held s.called (judged s.takes)
+-- what is reported of a line, and what is held after it
+abbrev pub line_report : Engine → Option Named → List ℕ
+line_report held None = unread_text
+line_report held (Some s) = amount_report held s.called (judged s.takes)
 
 abbrev pub held_line : Engine → Option Named → Engine
 held_line held None = held
 held_line held (Some s) = held_then held (judged s.takes)
+
+-- what is printed of line n
+abbrev pub line_text : ℕ → Engine → Option Named → List ℕ
+line_text n held o = codes "line " ++ (decimal n ++ (codes ": " ++ (line_report held o ++ codes "\n")))
 
 -- what is printed of the lines from number n on
 abbrev pub plan_report : ℕ → Engine → List (List ℕ) → List ℕ

@@ -1,14 +1,13 @@
-// Amounts, verdicts and refusals in words.
-ghost use Rattle.plan.specs.Reports.{words_text, verdict_text, reason_text, refusal_text};
+// Amounts and refusals in words.
+ghost use Rattle.plan.specs.Reports.{words_text, reason_text, refusal_text};
 ghost use Rattle.std.specs.Prelude.{◌≡◌, Some};
 
-use junction::Verdict;
 use kind::AmountRefusal;
 use kinds::EngineAmount;
 use notation::Runs;
 use std::fmt;
 
-// An amount: vehicles, frames and green.
+// An amount: vehicles, frames and green. Its own type is another crate's, which shows it in other words.
 #[derive(Clone, Copy)]
 pub struct AmountWords<'a>(pub &'a EngineAmount);
 
@@ -24,23 +23,6 @@ impl fmt::Display for AmountWords<'_> {
     }
 }
 
-// What came of a stage.
-#[derive(Clone, Copy)]
-pub struct VerdictWords(pub Verdict);
-
-impl fmt::Display for VerdictWords {
-    ghost output = { λ t. Some (verdict_text t.0) };
-
-    fn fmt<W: fmt::Write>(&self, f: &mut fmt::Formatter<W>) -> fmt::Result {
-        match self.0 {
-            Verdict::Added => write!(f, "added"),
-            Verdict::TooManyVehicles => write!(f, "does not fit, too many vehicles"),
-            Verdict::FrameHeld(k) => write!(f, "does not fit, frame {k} is already held"),
-            Verdict::SecondHeld(k) => write!(f, "does not fit, second {k} is already held"),
-        }
-    }
-}
-
 // Why an amount is refused.
 fn reason(refusal: AmountRefusal) -> &'static str
     ensures { result.now ≡ reason_text refusal }
@@ -51,7 +33,7 @@ fn reason(refusal: AmountRefusal) -> &'static str
     }
 }
 
-// A refusal: its number, its place and its reason.
+// A refusal: its number, its place and its reason. Its own type is another crate's.
 #[derive(Clone, Copy)]
 pub struct RefusalWords(pub AmountRefusal);
 

@@ -9,19 +9,6 @@ use Rattle.amounts.specs.Reading.{written, after_three}
 use Rattle.amounts.specs.declared.written.Written.{Written}
 use Rattle.script.specs.declared.command.Command.{Command}
 use Rattle.script.specs.declared.command.Command.TheVariants.{Set, Open, Buy, Back, Reclaim, Up, Stock}
-use Rattle.script.specs.declared.reading.Word.{Word}
-use Rattle.script.specs.declared.reading.Word.TheVariants as words
-
--- the word that bytes spell
-abbrev pub word : List ℕ → Option Word
-word bs =
-    cond (is "set" bs) (Some words.Set)
-    (cond (is "open" bs) (Some words.Open)
-    (cond (is "buy" bs) (Some words.Buy)
-    (cond (is "back" bs) (Some words.Back)
-    (cond (is "reclaim" bs) (Some words.Reclaim)
-    (cond (is "up" bs) (Some words.Up)
-    (cond (is "stock" bs) (Some words.Stock) None))))))
 
 -- two numbers, and k of them and the fields after them
 abbrev pub two_numbers : {X : Type 0} → (ℕ → ℕ → List (List ℕ) → Option X) → List (List ℕ) → Option X
@@ -54,15 +41,17 @@ reclaim_fields = last_number Reclaim
 abbrev pub up_fields : List (List ℕ) → Option (Command Written)
 up_fields = last_number Up
 
-abbrev pub fields_after : Word → List (List ℕ) → Option (Command Written)
-fields_after words.Set = set_fields
-fields_after words.Open = open_fields
-fields_after words.Buy = buy_fields
-fields_after words.Back = back_fields
-fields_after words.Reclaim = reclaim_fields
-fields_after words.Up = up_fields
-fields_after words.Stock = end Stock
+-- the fields after a word, if it is one
+abbrev pub fields_after : List ℕ → List (List ℕ) → Option (Command Written)
+fields_after w ps =
+    cond (is "set" w) (set_fields ps)
+    (cond (is "open" w) (open_fields ps)
+    (cond (is "buy" w) (buy_fields ps)
+    (cond (is "back" w) (back_fields ps)
+    (cond (is "reclaim" w) (reclaim_fields ps)
+    (cond (is "up" w) (up_fields ps)
+    (cond (is "stock" w) (end Stock ps) None))))))
 
 -- the command that a line says: its fields are divided by single spaces
 abbrev pub command : List ℕ → Option (Command Written)
-command bs = let ps = pieces 32 bs in go_on (first_read word ps) (λ w. fields_after w (others ps))
+command bs = let ps = pieces 32 bs in go_on (first_read Some ps) (λ w. fields_after w (others ps))

@@ -1,116 +1,41 @@
 // Commands, read from lines.
 ghost use Rattle.notation.specs.Left.{left};
-ghost use Rattle.script.specs.Reading.{back_fields, buy_fields, command, fields_after, open_fields, reclaim_fields, set_fields, up_fields, word};
+ghost use Rattle.notation.specs.Forms.{go_on, end};
+ghost use Rattle.script.specs.Reading.{command, fields_after};
 ghost use Rattle.std.specs.Prelude.{◌≡◌};
 
 use crate::command::Command;
 use amounts::{Written, next_written};
-use notation::{Pieces, next_number, same_bytes};
+use notation::{Pieces, next_number};
 
-// The first field of a line.
-#[derive(Clone, Copy)]
-enum Word {
-    Set,
-    Open,
-    Buy,
-    Back,
-    Reclaim,
-    Up,
-    Stock,
-}
-
-// The word that the bytes spell.
-fn read_word(bytes: &[u8]) -> Option<Word>
-    ensures { result ≡ word bytes.now }
-{
-    if same_bytes(bytes, b"set") {
-        Some(Word::Set)
-    } else if same_bytes(bytes, b"open") {
-        Some(Word::Open)
-    } else if same_bytes(bytes, b"buy") {
-        Some(Word::Buy)
-    } else if same_bytes(bytes, b"back") {
-        Some(Word::Back)
-    } else if same_bytes(bytes, b"reclaim") {
-        Some(Word::Reclaim)
-    } else if same_bytes(bytes, b"up") {
-        Some(Word::Up)
-    } else if same_bytes(bytes, b"stock") {
-        Some(Word::Stock)
-    } else {
-        None
-    }
-}
-
-// An endowment, after `set`.
-fn read_set(mut fields: Pieces) -> Option<Command<Written>>
-    ensures { result ≡ set_fields (left fields.entry) }
-{
-    let endowment = next_written(&mut fields)?;
-    fields.end_with(Command::Set(endowment))
-}
-
-// A parent, a row and a limit, after `open`.
-fn read_open(mut fields: Pieces) -> Option<Command<Written>>
-    ensures { result ≡ open_fields (left fields.entry) }
-{
-    let parent = next_number(&mut fields)?;
-    let child = next_number(&mut fields)?;
-    let limit = next_written(&mut fields)?;
-    fields.end_with(Command::Open {
-        parent,
-        child,
-        limit,
-    })
-}
-
-// A bank, a row of grants and an amount, after `buy`.
-fn read_buy(mut fields: Pieces) -> Option<Command<Written>>
-    ensures { result ≡ buy_fields (left fields.entry) }
-{
-    let bank = next_number(&mut fields)?;
-    let row = next_number(&mut fields)?;
-    let amount = next_written(&mut fields)?;
-    fields.end_with(Command::Buy { bank, row, amount })
-}
-
-// A row of grants and a serial, after `back`.
-fn read_back(mut fields: Pieces) -> Option<Command<Written>>
-    ensures { result ≡ back_fields (left fields.entry) }
-{
-    let row = next_number(&mut fields)?;
-    let serial = next_number(&mut fields)?;
-    fields.end_with(Command::Back { row, serial })
-}
-
-// A bank, after `reclaim`.
-fn read_reclaim(mut fields: Pieces) -> Option<Command<Written>>
-    ensures { result ≡ reclaim_fields (left fields.entry) }
-{
-    let bank = next_number(&mut fields)?;
-    fields.end_with(Command::Reclaim { bank })
-}
-
-// A bank, after `up`.
-fn read_up(mut fields: Pieces) -> Option<Command<Written>>
-    ensures { result ≡ up_fields (left fields.entry) }
-{
-    let bank = next_number(&mut fields)?;
-    fields.end_with(Command::Up { bank })
-}
-
-// The command by its word and the fields after it.
-fn read_fields(word: Word, fields: Pieces) -> Option<Command<Written>>
-    ensures { result ≡ fields_after word (left fields.entry) }
+// The command of a word, with the fields that it takes.
+fn next_command(word: &[u8], fields: &mut Pieces) -> Option<Command<Written>>
+    ensures { go_on result (λ c. end c (left fields.new)) ≡ fields_after word.now (left fields.old) }
 {
     match word {
-        Word::Set => read_set(fields),
-        Word::Open => read_open(fields),
-        Word::Buy => read_buy(fields),
-        Word::Back => read_back(fields),
-        Word::Reclaim => read_reclaim(fields),
-        Word::Up => read_up(fields),
-        Word::Stock => fields.end_with(Command::Stock),
+        b"set" => Some(Command::Set(next_written(fields)?)),
+        b"open" => Some(Command::Open {
+            parent: next_number(fields)?,
+            child: next_number(fields)?,
+            limit: next_written(fields)?,
+        }),
+        b"buy" => Some(Command::Buy {
+            bank: next_number(fields)?,
+            row: next_number(fields)?,
+            amount: next_written(fields)?,
+        }),
+        b"back" => Some(Command::Back {
+            row: next_number(fields)?,
+            serial: next_number(fields)?,
+        }),
+        b"reclaim" => Some(Command::Reclaim {
+            bank: next_number(fields)?,
+        }),
+        b"up" => Some(Command::Up {
+            bank: next_number(fields)?,
+        }),
+        b"stock" => Some(Command::Stock),
+        _ => None,
     }
 }
 
@@ -119,6 +44,7 @@ pub fn read_command(line: &[u8]) -> Option<Command<Written>>
     ensures { result ≡ command line.now }
 {
     let mut fields = Pieces::new(line, b' ');
-    let word = read_word(fields.next_piece()?)?;
-    read_fields(word, fields)
+    let word = fields.next_piece()?;
+    let command = next_command(word, &mut fields)?;
+    fields.end_with(command)
 }

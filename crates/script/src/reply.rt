@@ -1,5 +1,6 @@
 // What is replied to a line, and its text.
 ghost use Rattle.script.specs.Replies.{line_report, reply_text};
+ghost use Rattle.script.specs.declared.reply.LineRefusal.TheVariants.{Amount, Call};
 ghost use Rattle.std.specs.Prelude.{◌≡◌, Some};
 
 use amounts::AmountText;
@@ -9,14 +10,14 @@ use std::fmt;
 use tables::Refusal;
 
 // What an accepted command came to: its result, and the amount that it delivered, if it delivers one.
-#[derive(Clone, Copy)]
+#[derive(Clone, Copy, PartialEq)]
 pub struct Done {
     pub result: u32,
     pub amount: Option<EngineAmount>,
 }
 
 // Why a line was refused.
-#[derive(Clone, Copy)]
+#[derive(Clone, Copy, Debug, PartialEq)]
 pub enum LineRefusal {
     // The line of this number cannot be read.
     Unreadable(u32),
@@ -53,6 +54,22 @@ impl LineRefusal {
     }
 }
 
+impl From<AmountRefusal> for LineRefusal {
+    ghost from_gives = { λ refusal r. r ≡ Amount refusal };
+
+    fn from(refusal: AmountRefusal) -> Self {
+        Self::Amount(refusal)
+    }
+}
+
+impl From<Refusal> for LineRefusal {
+    ghost from_gives = { λ refusal r. r ≡ Call refusal };
+
+    fn from(refusal: Refusal) -> Self {
+        Self::Call(refusal)
+    }
+}
+
 // What is replied to a line.
 pub type Reply = Result<Done, LineRefusal>;
 
@@ -66,20 +83,13 @@ impl fmt::Display for ReplyText<'_> {
     fn fmt<W: fmt::Write>(&self, f: &mut fmt::Formatter<W>) -> fmt::Result {
         match self.0 {
             Ok(done) => {
-                let result = done.result;
-                match &done.amount {
-                    Some(amount) => {
-                        let amount = AmountText(amount);
-                        write!(f, "ok {result} {amount}")
-                    }
-                    None => write!(f, "ok {result}"),
+                write!(f, "ok {}", done.result)?;
+                if let Some(amount) = &done.amount {
+                    write!(f, " {}", AmountText(amount))?;
                 }
+                Ok(())
             }
-            Err(refusal) => {
-                let number = refusal.number();
-                let place = refusal.place();
-                write!(f, "no {number} {place}")
-            }
+            Err(refusal) => write!(f, "no {} {}", refusal.number(), refusal.place()),
         }
     }
 }

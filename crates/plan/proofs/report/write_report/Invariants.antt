@@ -4,8 +4,10 @@ use Rattle.plan.specs.Reports.{plan_report}
 use Rattle.kinds.specs.Engine.{engine_answers}
 use Rattle.plan.proofs.report.write_report.Given as goal
 
-abbrev pub invariant-loop-line : goal.invariant-loop-line
-invariant-loop-line l =
-    (string_bytes l.out ++ plan_report l.number l.held (lines_left l.line-iterator)
-    ≡ string_bytes l.initial.out ++ plan_report 1 engine_answers.empty (lines_left l.initial.line-iterator))
-    × (l.number + length (lines_left l.line-iterator) ≤ 1 + length l.input)
+abbrev pub invariant-loop-number : goal.invariant-loop-number
+invariant-loop-number l =
+    let numbers = l.number-iterator.a in
+    let rest = lines_left l.number-iterator.b in
+    (string_bytes l.out ++ plan_report numbers.start l.held rest
+    ≡ string_bytes l.initial.out ++ plan_report 1 engine_answers.empty (lines_left l.initial.number-iterator.b))
+    × (numbers.start + length rest ≤ 1 + length l.input)
