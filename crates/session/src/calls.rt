@@ -7,7 +7,7 @@ ghost use Rattle.std.specs.Prelude.{◌≡◌};
 use crate::session::Session;
 use kinds::{EngineAmount, Kind};
 use ledger::{Ledger, Refusal};
-use script::{Command, Done, LineRefusal, Reply};
+use script::{Command, Done, Reply};
 
 // Makes the call that a command asks for.
 fn ask(ledger: &mut Ledger<EngineAmount>, command: &Command<EngineAmount>) -> Result<Done, Refusal>
@@ -41,10 +41,10 @@ impl Session {
             banks: &mut self.banks,
             grants: &mut self.grants,
         };
-        let reply = ask(&mut ledger, command);
+        let done = ask(&mut ledger, command);
         if command.is_set() {
-            self.begun = reply.is_ok();
+            self.begun = done.is_ok();
         }
-        reply.map_err(LineRefusal::Call)
+        Ok(done?)
     }
 }

@@ -1,5 +1,7 @@
 -- A set of numbers as runs, in rising order with a gap between each two, in a fixed number of places. Assumes nothing.
-use Rattle.std.specs.Prelude.{ℕ, zero, suc, ◌-◌, max, Bool, true, cond, ◌&&◌, List, [], ◌∷◌, ◌++◌, length, replicate, ◌==◌, nat_le, nat_lt}
+use Rattle.std.specs.Prelude.{ℕ, zero, suc, ◌-◌, max, Bool, true, cond, ◌&&◌, List, [], ◌∷◌, ◌++◌, length, replicate, Ok, Err, Result, ◌==◌, nat_le, nat_lt}
+use Rattle.kind.specs.declared.refusal.AmountRefusal.{AmountRefusal}
+use Rattle.kind.specs.declared.refusal.AmountRefusal.TheVariants.{BadRun}
 use Rattle.sets.specs.declared.run.Run.{Run}
 
 abbrev pub run : ℕ → ℕ → Run
@@ -8,6 +10,10 @@ run from to = record { from = from; to = to }
 -- is from..to a run of numbers below n?
 abbrev pub is_run : ℕ → ℕ → ℕ → Bool
 is_run n from to = nat_lt from to && nat_le to n
+
+-- the run from..to of numbers below n, refused unless that is one
+abbrev pub make_run : ℕ → ℕ → ℕ → Result Run AmountRefusal
+make_run n from to = cond (is_run n from to) (Ok (run from to)) (Err BadRun)
 
 -- an unused place
 abbrev pub blank : Run

@@ -15,14 +15,8 @@ impl Windows {
         ensures answer { result ≡ make_windows from to }
         ensures contents { IfOk result (Has second_count window (within from to)) }
     {
-        if from >= to || to > u32::from(SECONDS) {
-            return Err(AmountRefusal::BadRun);
-        }
         let mut runs = NO_RUNS;
-        runs[0] = Run {
-            from: from as u16,
-            to: to as u16,
-        };
+        runs[0] = Run::below(SECONDS, from, to)?;
         Ok(Windows { runs })
     }
 

@@ -1,6 +1,7 @@
-use Rattle.std.proofs.Common.{◌≡◌, ℕ, ◌<◌, [], ◌∷◌, Ok, sym, ap, ◌∙◌, arith}
+use Rattle.std.proofs.Common.{◌≡◌, ℕ, ◌<◌, ◌≤◌, [], ◌∷◌, replicate, Ok, sym, ap, ◌∙◌, arith}
 use Rattle.std.proofs.lemmas.Bool.{cond-true}
-use Rattle.sets.specs.Runs.{run, within, covered}
+use Rattle.sets.specs.Runs.{run, blank, within, covered}
+use Rattle.sets.specs.declared.run.Run.{Run}
 use Rattle.sets.proofs.Answering.{told}
 use Rattle.sets.proofs.Scans.{within-le, is_run_when, runs_ordered, runs_covered}
 use Rattle.windows.specs.WindowFacts.{window_sets}
@@ -10,7 +11,10 @@ pub invariant_of-result : goal.invariant_of-result
 invariant_of-result c =
     let from = c.args.from in
     let to = c.args.to in
-    record { sound = runs_ordered 128 0 63 (run from to ∷ []) (omega arith, omega arith, omega arith, tt) }
+    let made = c.in_ok-runs.ensures.contents in
+    let lt : from < to = made.1 in
+    let le : to ≤ 128 = made.2 in
+    rw made.0 (record { sound = runs_ordered 128 0 63 (run from to ∷ []) (omega arith, lt, le, tt) })
 
 -- one run covers its own numbers
 one_run : (from to k : ℕ) → covered (run from to ∷ []) k ≡ within from to k
@@ -21,8 +25,12 @@ pub returns : goal.returns
 returns c =
     let from = c.args.from in
     let to = c.args.to in
-    let has = λ (k : ℕ) (h : k < 128). runs_covered (run from to ∷ []) 63 k ∙ one_run from to k in
+    let made = c.in_ok-runs.ensures.contents in
+    let lt : from < to = made.1 in
+    let le : to ≤ 128 = made.2 in
+    let has : (k : ℕ) → k < 128 → covered (c.in_ok-runs.field-0 ∷ replicate 63 blank) k ≡ within from to k =
+    λ k h. ap (λ (r : Run). covered (r ∷ replicate 63 blank) k) made.0 ∙ runs_covered (run from to ∷ []) 63 k ∙ one_run from to k in
     record {
-      answer = ap Ok (told window_sets _ (within from to) (within-le from to) has) ∙ sym (cond-true _ _ _ (is_run_when 128 from to (omega arith) (omega arith)));
+      answer = ap Ok (told window_sets _ (within from to) (within-le from to) has) ∙ sym (cond-true _ _ _ (is_run_when 128 from to lt le));
       contents = has;
     }
