@@ -1,43 +1,22 @@
 // Counts as a kind: they add up as long as the sum is a count.
-ghost use Rattle.std.specs.Prelude.{◌≡◌, ◌+◌, ◌-◌, ◌<◌, ◌≤◌, Decides, MatchOption, ◌==◌, nat_le, refl};
-ghost use Rattle.count.specs.Counts.{count_of, Sums, count_answers, within_top};
+ghost use Rattle.std.specs.Prelude.{◌≡◌, ◌+◌, ◌-◌, ◌<◌, ◌≤◌, Decides, MatchOption, nat_le, refl};
+ghost use Rattle.count.specs.Counts.{Sums, count_answers, within_top};
 ghost use Rattle.count.specs.Top.{top};
-ghost use Rattle.std.proofs.Common.{sym, ◌∙◌, ap, arith, rules};
+ghost use Rattle.std.proofs.Common.{arith, rules};
 ghost use Rattle.count.specs.Same;
-ghost use Rattle.std.proofs.lemmas.Bool.{leb-true, le-leb, cond-true, cond-false, leb-false, eqb-true, eq-eqb};
+ghost use Rattle.std.proofs.lemmas.Bool.{leb-true, le-leb};
+ghost use Rattle.std.proofs.lemmas.Bool.Decides.{nat_tests};
 ghost use Rattle.kind.proofs.Decisions.{pick};
 
 use crate::count::{Count, TOP};
 use kind::Kind;
 
 impl Count {
-    // Nothing.
-    fn none() -> Count
-        ensures { result ≡ count_of 0 }
-    {
-        Count { value: 0 }
-    }
-
-    // Is it the count of the same number?
-    fn same_value(&self, other: &Count) -> bool
-        ensures { result ≡ (self.now.value == other.now.value) }
-    {
-        self.value == other.value
-    }
-
     // The sum, if it is a count.
-    fn sum(&self, other: &Count) -> Option<u32>
-        ensures { MatchOption result (top < self.now.value + other.now.value) (λ v. (v ≡ self.now.value + other.now.value) × (v ≤ top)) }
+    fn sum(&self, other: &Count) -> Option<Count>
+        ensures { MatchOption result (top < self.now.value + other.now.value) (λ c. c.value ≡ self.now.value + other.now.value) }
     {
-        let value = self.value + other.value;
-        if value <= TOP { Some(value) } else { None }
-    }
-
-    // What is left without `part`, if this is at least as much.
-    fn without(&self, part: &Count) -> Option<u32>
-        ensures { MatchOption result (self.now.value < part.now.value) (λ v. v + part.now.value ≡ self.now.value) }
-    {
-        self.value.checked_sub(part.value)
+        Count::try_from(self.value + other.value).ok()
     }
 }
 
@@ -46,28 +25,26 @@ impl Kind for Count {
 
     ghost answers = { count_answers };
 
-    ghost functional = { λ x y z z' p q. Same.same z z' (sym p ∙ q) };
+    ghost functional = { Prim.grind (arith, Same.same) };
 
-    ghost commutative = { first_of (Prim.search rules, Prim.grind (arith, Self.row.coded.inj)) };
+    ghost commutative = { Prim.grind arith };
 
     ghost associative = { λ x y z u w p q. (record { value = y.value + z.value; capped = omega (arith, w.capped) }, (refl, omega arith)) };
 
-    ghost neutral = { first_of (Prim.search rules, Prim.grind (arith, Self.row.coded.inj)) };
+    ghost neutral = { Prim.grind arith };
 
-    ghost cancellative = { λ x y y' z p q. Same.same y y' (omega arith) };
+    ghost cancellative = { Prim.grind (arith, Same.same) };
 
-    ghost positive = { λ x y p. (Same.same x (count_of 0) (omega arith), Same.same y (count_of 0) (omega arith)) };
+    ghost positive = { Prim.grind (arith, Same.same) };
 
-    ghost tells_empty = { λ x. (λ e. Same.same x _ (eqb-true x.value 0 e), λ e. eq-eqb x.value 0 (ap (λ y. y.value) e)) };
+    ghost tells_empty = { Prim.search (rules, Same.same) };
 
     ghost tells_fit = { λ x y. (
       λ e. (record { value = x.value + y.value; capped = leb-true _ _ e }, refl),
       λ h. le-leb (x.value + y.value) top (omega (arith, h.0.capped, h.1)),
     ) };
 
-    ghost gives_join = { λ x y.
-        let s = x.value + y.value in
-        pick (nat_le s top) _ _ (λ e. sym (cond-true _ s 0 e)) (λ e. Same.same _ _ (cond-false _ s 0 e)) };
+    ghost gives_join = { Prim.grind (arith, nat_tests, Same.same) };
 
     ghost tells_part = { λ z x. (
       λ e. let le : x.value ≤ z.value = leb-true _ _ e in
@@ -77,15 +54,11 @@ impl Kind for Count {
 
     ghost gives_remainder = { λ z x.
         let d = z.value - x.value in
-        let small : d ≤ top = omega (arith, z.capped) in
-        pick (nat_le x.value z.value) _ _
-        (λ e. let le : x.value ≤ z.value = leb-true _ _ e in
-        let same-d : within_top d ≡ d = cond-true _ d 0 (le-leb d top small) in
-        omega arith)
-        (λ e. let gone : d ≡ 0 = omega (arith, leb-false x.value z.value e) in Same.same _ _ (ap within_top gone)) };
+        let same-d : within_top d ≡ d = Same.within_top_in d (omega (arith, z.capped)) in
+        pick (nat_le x.value z.value) _ _ (λ e. Prim.grind (arith, nat_tests)) (λ e. Same.same _ _ (Prim.grind (arith, nat_tests))) };
 
     fn empty() -> Self {
-        Self::none()
+        Count { value: 0 }
     }
 
     fn is_empty(&self) -> bool {
@@ -96,7 +69,7 @@ impl Kind for Count {
         ensures equal { Decides result (self.now ≡ other.now) }
         ensures by_value { Decides result (self.now.value ≡ other.now.value) }
     {
-        self.same_value(other)
+        self == other
     }
 
     fn fits(&self, other: &Self) -> bool {
@@ -104,10 +77,7 @@ impl Kind for Count {
     }
 
     fn join(&self, other: &Self) -> Self {
-        match self.sum(other) {
-            Some(value) => Count { value },
-            None => Count::none(),
-        }
+        self.sum(other).unwrap_or(Self::empty())
     }
 
     fn holds(&self, part: &Self) -> bool {
@@ -115,9 +85,9 @@ impl Kind for Count {
     }
 
     fn remainder(&self, part: &Self) -> Self {
-        match self.without(part) {
-            Some(value) => Count { value },
-            None => Count::none(),
+        // A part that is too large leaves 0.
+        Count {
+            value: self.value.saturating_sub(part.value),
         }
     }
 }

@@ -1,55 +1,46 @@
 // Frames as a kind: they unite if they share none.
-ghost use Rattle.frames.specs.FrameSets.{frame, frames_of, Unites, frames_answers};
+ghost use Rattle.frames.specs.FrameSets.{frame, Unites, frames_answers};
+ghost use Rattle.frames.specs.Gathered.{gathered, missing};
 ghost use Rattle.frames.specs.Sizes.{frame_count};
 ghost use Rattle.sets.specs.Members.{SameMembers, OneOfTwo};
-ghost use Rattle.std.specs.Prelude.{◌≡◌, true, Decides, ◌==◌};
+ghost use Rattle.std.specs.Prelude.{◌≡◌, true, Decides, bit_and};
 ghost use Rattle.sets.proofs.Unions as unions;
 ghost use Rattle.frames.specs.FrameFacts.{frame_sets};
 
 use crate::frames::{BYTES, Frames};
 use kind::Kind;
+use std::array;
 
 impl Frames {
-    // No frame.
-    fn none() -> Frames
-        ensures { result ≡ frames_of (λ _. 0) }
-    {
-        Frames { bytes: [0; BYTES] }
-    }
-
     // The frames that are in one of the two but not in both.
     fn difference(&self, other: &Frames) -> Frames
         ensures members { OneOfTwo frame_count frame self.now other.now result }
         ensures joined { frames_answers.fits self.now other.now ≡ true → result ≡ frames_answers.join self.now other.now }
         ensures left { frames_answers.holds self.now other.now ≡ true → result ≡ frames_answers.remainder self.now other.now }
     {
-        let mut bytes = [0; BYTES];
-        for i in 0..BYTES {
-            bytes[i] = self.bytes[i] ^ other.bytes[i];
+        Frames {
+            bytes: array::from_fn(|i| self.bytes[i] ^ other.bytes[i]),
         }
-        Frames { bytes }
     }
 
     // The bits of the frames that both have, gathered in one byte: 0 if there is no such frame.
     fn shared_bits(&self, other: &Frames) -> u8
-        ensures { (result == 0) ≡ frames_answers.fits self.now other.now }
+        ensures { result ≡ gathered bit_and self.now.bytes other.now.bytes }
     {
-        let mut shared = 0;
-        for i in 0..BYTES {
-            shared |= self.bytes[i] & other.bytes[i];
-        }
-        shared
+        self.bytes
+            .iter()
+            .zip(&other.bytes)
+            .fold(0, |shared, (x, y)| shared | (x & y))
     }
 
     // The bits of the frames of `part` that this lacks, gathered in one byte: 0 if there is no such frame.
     fn missing_bits(&self, part: &Frames) -> u8
-        ensures { (result == 0) ≡ frames_answers.holds self.now part.now }
+        ensures { result ≡ gathered missing self.now.bytes part.now.bytes }
     {
-        let mut missing = 0;
-        for i in 0..BYTES {
-            missing |= (self.bytes[i] & part.bytes[i]) ^ part.bytes[i];
-        }
-        missing
+        self.bytes
+            .iter()
+            .zip(&part.bytes)
+            .fold(0, |missing, (x, y)| missing | (!x & y))
     }
 }
 
@@ -81,20 +72,21 @@ impl Kind for Frames {
     ghost gives_remainder = { unions.gives_remainder frame_sets };
 
     fn empty() -> Self {
-        Self::none()
+        Frames { bytes: [0; BYTES] }
     }
 
     fn is_empty(&self) -> bool {
-        self.bytes == [0; BYTES]
+        *self == Self::empty()
     }
 
     fn same(&self, other: &Self) -> bool
         ensures equal { Decides result (self.now ≡ other.now) }
         ensures by_members { Decides result (SameMembers frame_count frame self.now other.now) }
     {
-        self.bytes == other.bytes
+        self == other
     }
 
+    #[tactic(auto, using(crate::proofs::Gathered::shared_none))]
     fn fits(&self, other: &Self) -> bool {
         self.shared_bits(other) == 0
     }
@@ -103,10 +95,11 @@ impl Kind for Frames {
         if self.fits(other) {
             self.difference(other)
         } else {
-            Frames::none()
+            Self::empty()
         }
     }
 
+    #[tactic(auto, using(crate::proofs::Gathered::missing_none))]
     fn holds(&self, part: &Self) -> bool {
         self.missing_bits(part) == 0
     }
@@ -115,7 +108,7 @@ impl Kind for Frames {
         if self.holds(part) {
             self.difference(part)
         } else {
-            Frames::none()
+            Self::empty()
         }
     }
 }

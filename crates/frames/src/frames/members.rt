@@ -1,27 +1,34 @@
 // Frames made from a run, and read back: one by one, or run by run.
-ghost use Rattle.std.specs.Prelude.{◌≡◌, ℕ, ◌-◌, ◌*◌, ◌<◌, ◌≤◌, IfOk, if◌then◌else◌, Decides};
+ghost use Rattle.std.specs.Prelude.{◌≡◌, ◌-◌, ◌*◌, ◌<◌, ◌≤◌, IfOk, Decides};
 ghost use Rattle.frames.specs.FrameSets.{frame, make_frames, frame_runs};
-ghost use Rattle.frames.specs.Listed.{FirstRun, listed};
+ghost use Rattle.frames.specs.Listed.{FirstRun};
 ghost use Rattle.frames.specs.Sizes.{frame_count};
 ghost use Rattle.sets.specs.Bytes.{mask};
 ghost use Rattle.sets.specs.Members.{Has};
 ghost use Rattle.sets.specs.Runs.{within};
 
 use crate::frames::{BYTES, FRAMES, Frames};
-use crate::runs::FrameRuns;
+use arrayvec::ArrayVec;
 use kind::AmountRefusal;
 use sets::Run;
+use std::array;
 
-// The lowest n bits of a byte, at n.
-const LOW_BITS: [u8; 9] = [0, 1, 3, 7, 15, 31, 63, 127, 255];
+// The number after the last frame.
+const END: u16 = FRAMES as u16;
+
+// No set of frames has more runs.
+const RUN_PLACES: usize = 128;
+
+// The runs of a set of frames.
+pub type FrameRuns = ArrayVec<Run, RUN_PLACES>;
 
 // Byte `i` of the set of all numbers below `end`.
-fn byte_below(end: u32, i: u32) -> u8
+fn byte_below(end: u32, i: usize) -> u8
     requires { i < 32 }
     ensures { result ≡ mask (end - i * 8) }
 {
-    let n = end.saturating_sub(i * 8).min(8);
-    LOW_BITS[n as usize]
+    let n = end.saturating_sub(i as u32 * 8).min(8);
+    ((1u32 << n) - 1) as u8
 }
 
 impl Frames {
@@ -33,60 +40,38 @@ impl Frames {
         if from >= to || to > FRAMES {
             return Err(AmountRefusal::BadRun);
         }
-        let mut bytes = [0; BYTES];
-        for i in 0..BYTES as u32 {
-            bytes[i as usize] = byte_below(to, i) ^ byte_below(from, i);
-        }
-        Ok(Frames { bytes })
+        Ok(Frames {
+            bytes: array::from_fn(|i| byte_below(to, i) ^ byte_below(from, i)),
+        })
     }
 
     // Is frame `f` in the set?
+    #[tactic(auto, using(std::proofs::lemmas::Nat::Bits::shr_and_one), unfolding(sets::specs::Bytes::bit_of))]
     pub fn has(&self, f: u8) -> bool
         ensures { Decides result (frame self.now f ≡ 1) }
     {
         (self.bytes[f as usize / 8] >> (f % 8)) & 1 == 1
     }
 
-    // The first number from `at` on that is in the set, or that is not, as `inside` says; `FRAMES` if there is none.
-    fn next_frame(&self, at: u32, inside: bool) -> u32
-        requires { at ≤ frame_count }
-        ensures bounds { (at ≤ result) × (result ≤ frame_count) }
-        ensures before { (k : ℕ) → at ≤ k → k < result → frame self.now k ≡ (if inside then 0 else 1) }
-        ensures found { result < frame_count → frame self.now result ≡ (if inside then 1 else 0) }
-    {
-        for k in at..FRAMES {
-            if self.has(k as u8) == inside {
-                return k;
-            }
-        }
-        FRAMES
-    }
-
     // The first run of the frames from `at` on.
-    fn run_from(&self, at: u32) -> Option<Run>
+    fn run_from(&self, at: u16) -> Option<Run>
         requires { at ≤ frame_count }
         ensures { FirstRun (frame self.now) at result }
     {
-        let from = self.next_frame(at, true);
-        if from == FRAMES {
-            return None;
-        }
-        let to = self.next_frame(from, false);
-        Some(Run {
-            from: from as u16,
-            to: to as u16,
-        })
+        let from = (at..END).find(|k| self.has(*k as u8))?;
+        let to = (from..END).find(|k| !self.has(*k as u8)).unwrap_or(END);
+        Some(Run { from, to })
     }
 
     // The longest runs of the frames, lowest first.
     pub fn runs(&self) -> FrameRuns
-        ensures { listed result ≡ frame_runs self.now }
+        ensures { result.items ≡ frame_runs self.now }
     {
-        let mut list = FrameRuns::none();
+        let mut list = FrameRuns::new();
         let mut at = 0;
         'scan: while let Some(run) = self.run_from(at) {
             list.push(run);
-            at = u32::from(run.to);
+            at = run.to;
         }
         list
     }

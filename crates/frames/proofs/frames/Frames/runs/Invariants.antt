@@ -1,13 +1,14 @@
 use Rattle.std.proofs.Common.{◌≡◌, ◌-◌, ◌≤◌, ◌++◌}
 use Rattle.frames.specs.FrameSets.{frame, frame_runs}
-use Rattle.frames.specs.Listed.{listed}
 use Rattle.frames.specs.Sizes.{frame_count}
 use Rattle.sets.specs.Runs.{runs_from}
 use Rattle.frames.proofs.frames.Frames.runs.Given as goal
 
 abbrev pub invariant-scan : goal.invariant-scan
-invariant-scan l =
-    (l.at ≤ frame_count) × (listed l.list ++ runs_from (frame l.self) (frame_count - l.at) l.at ≡ frame_runs l.self)
+invariant-scan l = record {
+  within : l.at ≤ frame_count;
+  so_far : l.list.items ++ runs_from (frame l.self) (frame_count - l.at) l.at ≡ frame_runs l.self;
+}
 
 abbrev pub decreases-scan : goal.decreases-scan
 decreases-scan l = frame_count - l.at
