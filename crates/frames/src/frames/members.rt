@@ -22,13 +22,16 @@ const RUN_PLACES: usize = 128;
 // The runs of a set of frames.
 pub type FrameRuns = ArrayVec<Run, RUN_PLACES>;
 
+// The lowest n bits of a byte, at n.
+const LOW_BITS: [u8; 9] = [0, 1, 3, 7, 15, 31, 63, 127, 255];
+
 // Byte `i` of the set of all numbers below `end`.
-fn byte_below(end: u32, i: usize) -> u8
+fn byte_below(end: u16, i: usize) -> u8
     requires { i < 32 }
     ensures { result ≡ mask (end - i * 8) }
 {
-    let n = end.saturating_sub(i as u32 * 8).min(8);
-    ((1u32 << n) - 1) as u8
+    let n = end.saturating_sub(i as u16 * 8).min(8);
+    LOW_BITS[n as usize]
 }
 
 impl Frames {
@@ -37,9 +40,7 @@ impl Frames {
         ensures answer { result ≡ make_frames from to }
         ensures contents { IfOk result (Has frame_count frame (within from to)) }
     {
-        if from >= to || to > FRAMES {
-            return Err(AmountRefusal::BadRun);
-        }
+        let Run { from, to } = Run::below(END, from, to)?;
         Ok(Frames {
             bytes: array::from_fn(|i| byte_below(to, i) ^ byte_below(from, i)),
         })

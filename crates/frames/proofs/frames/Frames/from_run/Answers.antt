@@ -23,8 +23,8 @@ returns c =
     let from = c.args.from in
     let to = c.args.to in
     let each : ℕ → ℕ = λ i. bit_xor (mask (to - i * 8)) (mask (from - i * 8)) in
-    let has = run_bits 32 from to _ (made _ _ each (λ i b f call. (search rules, search rules)) c.from_fn.ensures.items) (omega arith) in
+    let has = run_bits 32 from to _ (made _ _ each (λ i b f call. (search rules, search rules)) c.from_fn.ensures.items) (omega (arith, c.in_ok-from.ensures.contents.1)) in
     record {
-      answer = ap Ok (told frame_sets _ (within from to) (within-le from to) has) ∙ sym (cond-true _ _ _ (is_run_when 256 from to (omega arith) (omega arith)));
+      answer = ap Ok (told frame_sets _ (within from to) (within-le from to) has) ∙ sym (cond-true _ _ _ (is_run_when 256 from to c.in_ok-from.ensures.contents.1 c.in_ok-from.ensures.contents.2));
       contents = has;
     }
