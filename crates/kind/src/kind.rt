@@ -18,7 +18,7 @@ pub trait Kind: Copy {
     fn is_empty(&self) -> bool
         ensures { result ≡ answers.is_empty self.now };
 
-    // Are the two the same amount?
+    // Are the two the same amount? An `==` promises an equivalence; this tells equality.
     fn same(&self, other: &Self) -> bool
         ensures { Decides result (self.now ≡ other.now) };
 

@@ -2,7 +2,7 @@
 ghost use Rattle.kind.specs.Refusals.{amount_refusal};
 ghost use Rattle.std.specs.Prelude.{◌≡◌};
 
-#[derive(Clone, Copy, Debug, PartialEq)]
+#[derive(Clone, Copy, Debug, PartialEq, Eq)]
 pub enum AmountRefusal {
     // A count above its top.
     CountTooLarge,
@@ -11,7 +11,7 @@ pub enum AmountRefusal {
 }
 
 impl AmountRefusal {
-    // The number by which the refusal is known.
+    // The number by which the refusal is known. It is fixed by those who read it, so it is no discriminant.
     pub fn number(self) -> u32
         ensures { result ≡ (amount_refusal self).number }
     {

@@ -11,7 +11,7 @@ use crate::chains::{Chain, chain_of};
 use kind::Kind;
 use tables::{Bank, Refusal};
 
-// Room for a mark on each row of the largest table.
+// Room for a mark on each row of the largest table, since nothing allocates.
 pub(crate) type Marks = [bool; 64];
 
 // The chain of a bank, and marks on the rows of that bank and of those beneath it.

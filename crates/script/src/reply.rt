@@ -30,7 +30,7 @@ pub enum LineRefusal {
 }
 
 impl LineRefusal {
-    // The number by which the refusal is known.
+    // The number by which the refusal is known. It is fixed by those who read it, so it is no discriminant.
     pub fn number(self) -> u32
         ensures { result ≡ (line_report self).number }
     {

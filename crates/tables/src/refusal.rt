@@ -3,13 +3,13 @@ ghost use Rattle.tables.specs.Refusals.{refusal_report};
 ghost use Rattle.std.specs.Prelude.{◌≡◌};
 
 // Which table has a length out of range.
-#[derive(Clone, Copy, Debug, PartialEq)]
+#[derive(Clone, Copy, Debug, PartialEq, Eq)]
 pub enum Table {
     Banks,
     Grants,
 }
 
-#[derive(Clone, Copy, Debug, PartialEq)]
+#[derive(Clone, Copy, Debug, PartialEq, Eq)]
 pub enum Refusal {
     // A table length is out of range.
     TableLength(Table),
@@ -38,7 +38,7 @@ pub enum Refusal {
 }
 
 impl Refusal {
-    // The number by which the refusal is known.
+    // The number by which the refusal is known. It is fixed by those who read it, so it is no discriminant.
     pub fn number(self) -> u32
         ensures { result ≡ (refusal_report self).number }
     {

@@ -1,4 +1,4 @@
-// The records that the caller keeps and lends.
+// The records that the caller keeps and lends. A mark tells a live row from a free one: the fields lie in the caller's memory either way.
 
 // The head of a ledger. It is never copied.
 #[derive(Drop, PartialEq, Eq)]

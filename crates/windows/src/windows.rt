@@ -18,7 +18,7 @@ const PLACES: usize = 64;
 // No place in use.
 const NO_RUNS: [Run; PLACES] = [Run { from: 0, to: 0 }; PLACES];
 
-// The runs stand in rising order with a gap between each two; unused places are 0 and 0, at the end.
+// The runs stand in rising order with a gap between each two; unused places are 0 and 0, at the end. An amount lies in a row, so the places are fixed.
 #[derive(Clone, Copy, PartialEq, Eq)]
 pub struct Windows {
     runs: [Run; PLACES],

@@ -91,6 +91,7 @@ impl Kind for Frames {
         self.shared_bits(other) == 0
     }
 
+    // As for windows: one function for both would need a trait of its own, with `difference` and what it says.
     fn join(&self, other: &Self) -> Self {
         if self.fits(other) {
             self.difference(other)

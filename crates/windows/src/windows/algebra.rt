@@ -65,6 +65,7 @@ impl Kind for Windows {
         !self.walk(other).any(|turn| turn.in_one && turn.in_other)
     }
 
+    // As for frames: one function for both would need a trait of its own, with `difference` and what it says.
     fn join(&self, other: &Self) -> Self {
         if self.fits(other) {
             self.difference(other)
