@@ -1,7 +1,7 @@
 // A bundle of two kinds is a kind, each side by itself.
 ghost use Rattle.kinds.specs.Bundles.{BothMake, bundle_answers};
-ghost use Rattle.std.proofs.lemmas.Bool.{and_parts, and_from};
-ghost use Rattle.std.proofs.Common.{ap, rules};
+ghost use Rattle.kinds.specs.Sides.{sides_tell};
+ghost use Rattle.std.proofs.Common.{rules};
 
 use crate::bundle::Bundle;
 use kind::Kind;
@@ -24,41 +24,17 @@ impl<A: Kind, B: Kind> Kind for Bundle<A, B> {
 
     ghost cancellative = { Prim.search rules };
 
-    ghost positive = { λ x y p.
-        let l = A.Kind.positive x.first y.first p.0 in
-        let r = B.Kind.positive x.second y.second p.1 in
-        (λ i. record { first = l.0 i; second = r.0 i }, λ i. record { first = l.1 i; second = r.1 i }) };
+    ghost positive = { Prim.search rules };
 
-    ghost tells_empty = { λ x.
-        let l = A.Kind.tells_empty x.first in
-        let r = B.Kind.tells_empty x.second in (
-          λ e. let t = and_parts _ _ e in let a = l.0 t.0 in let b = r.0 t.1 in λ i. record { first = a i; second = b i },
-          λ e. and_from _ _ (l.1 (ap (λ y. y.first) e)) (r.1 (ap (λ y. y.second) e)),
-        ) };
+    ghost tells_empty = { Prim.search rules };
 
     ghost tells_fit = { λ x y.
-        let l = A.Kind.tells_fit x.first y.first in
-        let r = B.Kind.tells_fit x.second y.second in (
-          λ e.
-              let t = and_parts _ _ e in
-              let a = l.0 t.0 in
-              let b = r.0 t.1 in
-              (record { first = a.0; second = b.0 }, (a.1, b.1)),
-          λ h. and_from _ _ (l.1 (h.0.first, h.1.0)) (r.1 (h.0.second, h.1.1)),
-        ) };
+        sides_tell _ _ _ _ (A.Kind.tells_fit x.first y.first) (B.Kind.tells_fit x.second y.second) };
 
     ghost gives_join = { Prim.search rules };
 
     ghost tells_part = { λ z x.
-        let l = A.Kind.tells_part z.first x.first in
-        let r = B.Kind.tells_part z.second x.second in (
-          λ e.
-              let t = and_parts _ _ e in
-              let a = l.0 t.0 in
-              let b = r.0 t.1 in
-              (record { first = a.0; second = b.0 }, (a.1, b.1)),
-          λ h. and_from _ _ (l.1 (h.0.first, h.1.0)) (r.1 (h.0.second, h.1.1)),
-        ) };
+        sides_tell _ _ _ _ (A.Kind.tells_part z.first x.first) (B.Kind.tells_part z.second x.second) };
 
     ghost gives_remainder = { Prim.search rules };
 
@@ -73,6 +49,7 @@ impl<A: Kind, B: Kind> Kind for Bundle<A, B> {
         self.first.is_empty() && self.second.is_empty()
     }
 
+    // Side by side, since an amount of some kind need not have `==`.
     fn same(&self, other: &Self) -> bool {
         self.first.same(&other.first) && self.second.same(&other.second)
     }
