@@ -6,32 +6,9 @@ mod tests {
     use kinds::{AmountRefusal, Bundle, Count, EngineAmount, Frames, Kind, Windows, engine_amount};
     use std::test::Fail;
 
-    fn count(n: u32) -> Result<Count, Fail> {
-        match Count::try_from(n) {
-            Ok(c) => Ok(c),
-            Err(_) => Err(Fail::new("no count")),
-        }
-    }
-
-    fn frames(from: u32, to: u32) -> Result<Frames, Fail> {
-        match Frames::from_run(from, to) {
-            Ok(x) => Ok(x),
-            Err(_) => Err(Fail::new("no frames")),
-        }
-    }
-
-    fn windows(from: u32, to: u32) -> Result<Windows, Fail> {
-        match Windows::from_run(from, to) {
-            Ok(x) => Ok(x),
-            Err(_) => Err(Fail::new("no windows")),
-        }
-    }
-
+    // The number of the refusal, or 0 if there is none.
     fn number_of(refused: Option<AmountRefusal>) -> u32 {
-        match refused {
-            Some(refusal) => refusal.number(),
-            None => 0,
-        }
+        refused.map_or(0, |refusal| refusal.number())
     }
 
     #[test]
@@ -48,8 +25,8 @@ mod tests {
 
     #[test]
     fn counts_add(rt: HostRuntime) -> Result<(), Fail> {
-        let most = count(999_999_999)?;
-        let one = count(1)?;
+        let most = Count::try_from(999_999_999)?;
+        let one = Count::try_from(1)?;
         let top = most.join(&one);
         assert_eq!(rt; top.value(), 1_000_000_000);
         assert!(rt; !top.fits(&one));
@@ -61,15 +38,15 @@ mod tests {
 
     #[test]
     fn frames_unite(rt: HostRuntime) -> Result<(), Fail> {
-        let low = frames(3, 21)?;
+        let low = Frames::from_run(3, 21)?;
         assert!(rt; !low.has(2));
         assert!(rt; low.has(3));
         assert!(rt; low.has(20));
         assert!(rt; !low.has(21));
-        let high = frames(250, 256)?;
+        let high = Frames::from_run(250, 256)?;
         let both = low.join(&high);
         assert!(rt; both.has(255));
-        assert_eq!(rt; both.runs().as_slice().len(), 2);
+        assert_eq!(rt; both.runs().len(), 2);
         assert!(rt; both.holds(&high));
         assert!(rt; both.remainder(&high).same(&low));
         Ok(())
@@ -77,13 +54,13 @@ mod tests {
 
     #[test]
     fn windows_touch(rt: HostRuntime) -> Result<(), Fail> {
-        let first = windows(0, 10)?;
-        let second = windows(10, 20)?;
+        let first = Windows::from_run(0, 10)?;
+        let second = Windows::from_run(10, 20)?;
         let both = first.join(&second);
         assert_eq!(rt; both.runs().len(), 1);
-        assert!(rt; both.same(&windows(0, 20)?));
-        assert!(rt; !first.fits(&windows(9, 20)?));
-        let middle = both.remainder(&windows(4, 6)?);
+        assert!(rt; both.same(&Windows::from_run(0, 20)?));
+        assert!(rt; !first.fits(&Windows::from_run(9, 20)?));
+        let middle = both.remainder(&Windows::from_run(4, 6)?);
         assert_eq!(rt; middle.runs().len(), 2);
         assert!(rt; middle.has(3));
         assert!(rt; !middle.has(4));
@@ -97,19 +74,27 @@ mod tests {
         let mut evens = Windows::empty();
         let mut odds = Windows::empty();
         for k in 0..64 {
-            evens = evens.join(&windows(2 * k, 2 * k + 1)?);
-            odds = odds.join(&windows(2 * k + 1, 2 * k + 2)?);
+            evens = evens.join(&Windows::from_run(2 * k, 2 * k + 1)?);
+            odds = odds.join(&Windows::from_run(2 * k + 1, 2 * k + 2)?);
         }
         assert_eq!(rt; evens.runs().len(), 64);
         assert!(rt; evens.fits(&odds));
-        assert!(rt; evens.join(&odds).same(&windows(0, 128)?));
+        assert!(rt; evens.join(&odds).same(&Windows::from_run(0, 128)?));
         Ok(())
     }
 
     #[test]
     fn bundles_ask_both_sides(rt: HostRuntime) -> Result<(), Fail> {
-        let x: EngineAmount = engine_amount(count(2)?, frames(0, 8)?, windows(0, 60)?);
-        let y: EngineAmount = engine_amount(count(2)?, frames(8, 9)?, windows(59, 61)?);
+        let x: EngineAmount = engine_amount(
+            Count::try_from(2)?,
+            Frames::from_run(0, 8)?,
+            Windows::from_run(0, 60)?,
+        );
+        let y: EngineAmount = engine_amount(
+            Count::try_from(2)?,
+            Frames::from_run(8, 9)?,
+            Windows::from_run(59, 61)?,
+        );
         assert!(rt; !x.fits(&y));
         assert!(rt; x.join(&y).is_empty());
         let Bundle { first, second } = x;

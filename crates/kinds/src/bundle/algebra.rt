@@ -49,6 +49,7 @@ impl<A: Kind, B: Kind> Kind for Bundle<A, B> {
         self.first.is_empty() && self.second.is_empty()
     }
 
+    // Side by side, since an amount of some kind need not have `==`.
     fn same(&self, other: &Self) -> bool {
         self.first.same(&other.first) && self.second.same(&other.second)
     }
