@@ -10,7 +10,7 @@ use windows::Windows;
 // A count of vehicles, with frames and seconds of green.
 pub type EngineAmount = Bundle<Count, Bundle<Frames, Windows>>;
 
-// The three amounts together.
+// The three amounts together; a `From` of a triple would not name them.
 pub fn engine_amount(count: Count, frames: Frames, windows: Windows) -> EngineAmount
     ensures { result ≡ both count (both frames windows) }
 {

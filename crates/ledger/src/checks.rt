@@ -13,7 +13,7 @@ use crate::ledger::Ledger;
 use kind::Kind;
 use tables::{Bank, Grant, Refusal, Table};
 
-// Does a live grant stand in the row?
+// Does a live grant stand in the row? As `is_live` of banks: a trait for one mark would be longer.
 fn is_granted<K: Kind>(grants: &[Grant<K>], row: u32) -> bool
     ensures { result ≡ (grant_at K.Kind.answers.empty grants.now row).live }
 {

@@ -14,7 +14,8 @@ pub struct Run {
 }
 
 impl Run {
-    // The numbers from `from` up to `to` - 1, refused unless there is one and all are below `end`.
+    // The numbers from `from` up to `to` - 1, refused unless there is one and all are below `end`. Callers have two plain
+    // numbers, of which this makes the pair.
     pub fn below(end: u16, from: u32, to: u32) -> Result<Run, AmountRefusal>
         ensures answer { result ≡ make_run end from to }
         ensures contents { IfOk result (λ r. (r ≡ run from to) × (from < to) × (to ≤ end)) }

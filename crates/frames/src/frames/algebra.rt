@@ -33,7 +33,8 @@ impl Frames {
             .fold(0, |shared, (x, y)| shared | (x & y))
     }
 
-    // The bits of the frames of `part` that this lacks, gathered in one byte: 0 if there is no such frame.
+    // The bits of the frames of `part` that this lacks, gathered in one byte: 0 if there is no such frame. An expression
+    // each: one function for both would take the operation on two bytes as a closure.
     fn missing_bits(&self, part: &Frames) -> u8
         ensures { result ≡ gathered missing self.now.bytes part.now.bytes }
     {
