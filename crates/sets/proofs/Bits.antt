@@ -1,64 +1,32 @@
 -- Bits of numbers and of bytes: what the operations on bytes do to the sets that they keep.
-use Rattle.std.proofs.Common.{◌≡◌, ℕ, zero, suc, ◌+◌, ◌-◌, ◌*◌, ◌/◌, ◌%◌, ◌^◌, ◌<◌, ◌≤◌, min, eqb, List, [], ◌∷◌, length, get_or, sym, refl, ap, ◌∙◌, subst, ap₂, ⊎_elim, pow-suc, one-add, arith, pow_pos, pow_mono}
+use Rattle.std.proofs.Common.{◌≡◌, ℕ, zero, suc, ◌+◌, ◌-◌, ◌*◌, ◌/◌, ◌%◌, ◌^◌, ◌<◌, ◌≤◌, min, List, length, get_or, sym, ap, ◌∙◌, subst, ap₂, ⊎_elim, pow-suc, arith, pow_pos, pow_mono}
 use mathlib.Core.HLevel.{Π_prop, ×_prop}
 use native.Mathlib.Nat.{ℕ_set}
 use native.Mathlib.Bridge.{le_prop}
-use lib.Bits.{bit_and, bit_or, bit_xor, or_add_and, and_le_l, and_le_r, xor_lt, and_shr, and_step, xor_shr, xor_step, xor_add_and, differ}
-use Rattle.std.proofs.lemmas.Nat.{shr-shr}
+use lib.Bits.{bit_and, bit_xor, and_le_l, and_le_r, xor_lt}
+use Rattle.std.proofs.lemmas.Nat.Bits.{bit_at_lowest, bit_at-suc, bit_at-zero, bit_at_and, bit_at_xor, bit_at_ones, bit_at_ones_above, same_from_bits_below}
 use Rattle.std.proofs.lemmas.List.FromFn.{length-map-range_with_len, get_or-map-range_with_len}
 use Rattle.std.proofs.lemmas.List.{ext_get_or}
-use Rattle.std.proofs.lemmas.Bool.{cases_lt, cases_eq}
-use Rattle.std.proofs.lemmas.Bool.Decides.{nat_tests, Decides-eqb}
-use Rattle.sets.specs.Members.{all_below}
-use Rattle.sets.proofs.Unions.{all_decides}
+use Rattle.std.proofs.lemmas.Bool.{cases_lt}
+use Rattle.std.proofs.lemmas.Bool.Decides.{nat_tests}
 use Rattle.sets.specs.Bytes.{Bytes, bit, bit_of, binary, bytes_of, mask}
 use Rattle.sets.specs.Runs.{within}
 
 -- ---- digits
 
-bit-zero : (a : ℕ) → bit a 0 ≡ a % 2
-bit-zero a = omega arith
-
-bit-suc : (a j : ℕ) → bit a (suc j) ≡ bit (a / 2) j
-bit-suc a j = ap (λ n. a / 2 ^ n % 2) (sym (one-add j)) ∙ ap (λ n. n % 2) (sym (shr-shr a 1 j))
-
-pub bit_le : (a j : ℕ) → bit a j ≤ 1
-bit_le a j = omega arith
-
--- numbers of m binary are equal if their binary are
-pub same_bits : (m a b : ℕ) → a < 2 ^ m → b < 2 ^ m → ((j : ℕ) → j < m → bit a j ≡ bit b j) → a ≡ b
-same_bits zero a b ha hb e = omega arith
-same_bits (suc m) a b ha hb e =
-    let ih = same_bits m (a / 2) (b / 2) (omega (arith, pow-suc 2 m)) (omega (arith, pow-suc 2 m))
-    (λ j h. sym (bit-suc a j) ∙ e (suc j) (omega arith) ∙ bit-suc b j) in
-    omega (arith, e 0 (omega arith), bit-zero a, bit-zero b)
-
 pub bit-binary : (m : ℕ) (f : ℕ → ℕ) (j : ℕ) → j < m → bit (binary m f) j ≡ min (f j) 1
 unfolding binary
 bit-binary zero f j h = omega arith
-bit-binary (suc m) f zero h = omega (arith, bit-zero (binary (suc m) f))
+bit-binary (suc m) f zero h = omega (arith, bit_at_lowest (binary (suc m) f))
 bit-binary (suc m) f (suc j) h =
     let rest = binary m (λ j. f (suc j)) in
     let half : (min (f 0) 1 + 2 * rest) / 2 ≡ rest = omega arith in
-    bit-suc _ j ∙ ap (λ n. bit n j) half ∙ bit-binary m (λ j. f (suc j)) j (omega arith)
+    bit_at-suc _ j ∙ ap (λ n. bit n j) half ∙ bit-binary m (λ j. f (suc j)) j (omega arith)
 
 -- ---- the operations, digit by digit
 
-pub and-bit : (a b j : ℕ) → bit (bit_and a b) j ≡ min (bit a j) (bit b j)
-and-bit a b j = omega (arith, and_shr a b j, and_step (a / 2 ^ j) (b / 2 ^ j))
-
-differ_sum : (x y : ℕ) → x < 2 → y < 2 → differ x y + 2 * min x y ≡ x + y
-differ_sum zero y hx hy = omega arith
-differ_sum (suc zero) zero hx hy = refl
-differ_sum (suc zero) (suc zero) hx hy = refl
-differ_sum (suc zero) (suc (suc y)) hx hy = omega arith
-differ_sum (suc (suc x)) y hx hy = omega arith
-
 pub xor-bit : (a b j : ℕ) → bit (bit_xor a b) j + 2 * min (bit a j) (bit b j) ≡ bit a j + bit b j
-xor-bit a b j =
-    let x = bit a j in
-    let y = bit b j in
-    omega (arith, xor_shr a b j, xor_step (a / 2 ^ j) (b / 2 ^ j), differ_sum x y (omega arith) (omega arith))
+xor-bit a b j = omega (arith, bit_at_xor a b j)
 
 -- ---- bytes
 
@@ -89,11 +57,7 @@ bit_of-bytes_of n f k h =
 
 pub bit_of-le : (bs : List ℕ) (k : ℕ) → bit_of bs k ≤ 1
 unfolding bit_of
-bit_of-le bs k = bit_le (get_or bs (k / 8) 0) (k % 8)
-
-bit_none : (j : ℕ) → bit 0 j ≡ 0
-bit_none zero = refl
-bit_none (suc j) = bit-suc 0 j ∙ bit_none j
+bit_of-le bs k = omega arith
 
 -- bit j of byte i is number i * 8 + j
 bit-place : (bs : List ℕ) (i j : ℕ) → j < 8 → bit_of bs (i * 8 + j) ≡ bit (get_or bs i 0) j
@@ -108,7 +72,7 @@ pub same_bytes : (n : ℕ) (xs ys : List ℕ) → Bytes n xs → Bytes n ys → 
 same_bytes n xs ys hx hy e =
     ext_get_or 0 xs ys (hx.0 ∙ sym hy.0) (λ i h.
     let lt : i < n = omega (arith, hx.0) in
-    same_bits 8 (get_or xs i 0) (get_or ys i 0) (hx.1 i lt) (hy.1 i lt)
+    same_from_bits_below 8 (get_or xs i 0) (get_or ys i 0) (hx.1 i lt) (hy.1 i lt)
     (λ j l. sym (bit-place xs i j l) ∙ e (i * 8 + j) (omega arith) ∙ bit-place ys i j l))
 
 -- what is seen of each byte, and what of each bit
@@ -120,15 +84,15 @@ module _ (n : ℕ) (xs ys : List ℕ) where
       let j = k % 8 in
       let a = get_or xs i 0 in
       let b = get_or ys i 0 in
-      let e : min (bit a j) (bit b j) ≡ 0 = sym (and-bit a b j) ∙ ap (λ v. bit v j) (h i (omega arith)) ∙ bit_none j in
-      omega (arith, bit_le a j, bit_le b j)
+      let e : min (bit a j) (bit b j) ≡ 0 = sym (bit_at_and a b j) ∙ ap (λ v. bit v j) (h i (omega arith)) ∙ bit_at-zero j in
+      omega arith
 
   pub apart_bytes : Bytes n xs → ((k : ℕ) → k < n * 8 → bit_of xs k + bit_of ys k ≤ 1) → (i : ℕ) → i < n → bit_and (get_or xs i 0) (get_or ys i 0) ≡ 0
   apart_bytes hx h i l =
       let a = get_or xs i 0 in
       let b = get_or ys i 0 in
-      same_bits 8 (bit_and a b) 0 (omega (arith, and_le_l a b, hx.1 i l)) (omega arith) (λ j lj.
-      omega (arith, and-bit a b j, bit_none j, h (i * 8 + j) (omega arith), bit-place xs i j lj, bit-place ys i j lj))
+      same_from_bits_below 8 (bit_and a b) 0 (omega (arith, and_le_l a b, hx.1 i l)) (omega arith) (λ j lj.
+      omega (arith, bit_at_and a b j, bit_at-zero j, h (i * 8 + j) (omega arith), bit-place xs i j lj, bit-place ys i j lj))
 
   pub part_bits : ((i : ℕ) → i < n → bit_and (get_or ys i 0) (get_or xs i 0) ≡ get_or xs i 0) → (k : ℕ) → k < n * 8 → bit_of xs k ≤ bit_of ys k
   unfolding bit_of
@@ -137,15 +101,15 @@ module _ (n : ℕ) (xs ys : List ℕ) where
       let j = k % 8 in
       let a = get_or xs i 0 in
       let b = get_or ys i 0 in
-      let e : min (bit b j) (bit a j) ≡ bit a j = sym (and-bit b a j) ∙ ap (λ v. bit v j) (h i (omega arith)) in
+      let e : min (bit b j) (bit a j) ≡ bit a j = sym (bit_at_and b a j) ∙ ap (λ v. bit v j) (h i (omega arith)) in
       omega arith
 
   pub part_bytes : Bytes n xs → ((k : ℕ) → k < n * 8 → bit_of xs k ≤ bit_of ys k) → (i : ℕ) → i < n → bit_and (get_or ys i 0) (get_or xs i 0) ≡ get_or xs i 0
   part_bytes hx h i l =
       let a = get_or xs i 0 in
       let b = get_or ys i 0 in
-      same_bits 8 (bit_and b a) a (omega (arith, and_le_r b a, hx.1 i l)) (hx.1 i l) (λ j lj.
-      omega (arith, and-bit b a j, h (i * 8 + j) (omega arith), bit-place xs i j lj, bit-place ys i j lj))
+      same_from_bits_below 8 (bit_and b a) a (omega (arith, and_le_r b a, hx.1 i l)) (hx.1 i l) (λ j lj.
+      omega (arith, bit_at_and b a j, h (i * 8 + j) (omega arith), bit-place xs i j lj, bit-place ys i j lj))
 
 -- the exclusive or of two lists of bytes mixes their bits
 pub mixed_bits : (n : ℕ) (xs ys zs : List ℕ) → ((i : ℕ) → i < n → get_or zs i 0 ≡ bit_xor (get_or xs i 0) (get_or ys i 0))
@@ -162,27 +126,6 @@ mixed_sound n xs ys zs hx hy e h =
     (e, λ i l. omega (arith, h i l, xor_lt 8 (get_or xs i 0) (get_or ys i 0) (hx.1 i l) (hy.1 i l)))
 
 -- ---- runs
-
-low_in : (n j : ℕ) → j < n → bit (2 ^ n - 1) j ≡ 1
-low_in zero j h = omega arith
-low_in (suc n) zero h = omega (arith, pow-suc 2 n, pow_pos n, bit-zero (2 ^ suc n - 1))
-low_in (suc n) (suc j) h =
-    let half : (2 ^ suc n - 1) / 2 ≡ 2 ^ n - 1 = omega (arith, pow-suc 2 n, pow_pos n) in
-    bit-suc (2 ^ suc n - 1) j ∙ ap (λ v. bit v j) half ∙ low_in n j (omega arith)
-
-low_out : (n j : ℕ) → n ≤ j → bit (2 ^ n - 1) j ≡ 0
-low_out zero j h = bit_none j
-low_out (suc n) zero h = omega arith
-low_out (suc n) (suc j) h =
-    let half : (2 ^ suc n - 1) / 2 ≡ 2 ^ n - 1 = omega (arith, pow-suc 2 n, pow_pos n) in
-    bit-suc (2 ^ suc n - 1) j ∙ ap (λ v. bit v j) half ∙ low_out n j (omega arith)
-
--- the table of masks
-pub low_table : (n : ℕ) → n ≤ 8 → get_or (0 ∷ 1 ∷ 3 ∷ 7 ∷ 15 ∷ 31 ∷ 63 ∷ 127 ∷ 255 ∷ []) n 0 ≡ 2 ^ n - 1
-unfolding all_below
-low_table n h =
-    let low : List ℕ = 0 ∷ 1 ∷ 3 ∷ 7 ∷ 15 ∷ 31 ∷ 63 ∷ 127 ∷ 255 ∷ [] in
-    (all_decides 9 (λ m. eqb (get_or low m 0) (2 ^ m - 1)) (λ m. get_or low m 0 ≡ 2 ^ m - 1) (λ m. Decides-eqb _ _)).0 refl n (omega arith)
 
 mask_lt : (n : ℕ) → mask n < 256
 mask_lt n = let h : min n 8 ≤ 8 = omega arith in omega (arith, pow_mono h, pow_pos (min n 8))
@@ -204,43 +147,20 @@ module _ (n from to : ℕ) (bs : List ℕ) (h : (i : ℕ) → i < n → get_or b
       let x = xor-bit a b j in
       ⊎_elim
       (λ (lt : k < from).
-      let p = low_in (min (to - i * 8) 8) j (omega arith) in
-      let q = low_in (min (from - i * 8) 8) j (omega arith) in
+      let p = bit_at_ones (min (to - i * 8) 8) j (omega arith) in
+      let q = bit_at_ones (min (from - i * 8) 8) j (omega arith) in
       let z : bit (get_or bs i 0) j ≡ 0 = omega arith in
       z ∙ grind (arith, nat_tests))
       (λ (ge : from ≤ k). ⊎_elim
       (λ (lt : k < to).
-      let p = low_in (min (to - i * 8) 8) j (omega arith) in
-      let q = low_out (min (from - i * 8) 8) j (omega arith) in
+      let p = bit_at_ones (min (to - i * 8) 8) j (omega arith) in
+      let q = bit_at_ones_above (min (from - i * 8) 8) j (omega arith) in
       let z : bit (get_or bs i 0) j ≡ 1 = omega arith in
       z ∙ grind (arith, nat_tests))
       (λ (ge' : to ≤ k).
-      let p = low_out (min (to - i * 8) 8) j (omega arith) in
-      let q = low_out (min (from - i * 8) 8) j (omega arith) in
+      let p = bit_at_ones_above (min (to - i * 8) 8) j (omega arith) in
+      let q = bit_at_ones_above (min (from - i * 8) 8) j (omega arith) in
       let z : bit (get_or bs i 0) j ≡ 0 = omega arith in
       z ∙ grind (arith, nat_tests))
       (cases_lt k to))
       (cases_lt k from)
-
--- ---- what two numbers do not share
-
-pub xor_none : (a b : ℕ) → bit_xor a b ≡ 0 → a ≡ b
-xor_none a b e = omega (arith, xor_add_and a b, and_le_l a b, and_le_r a b)
-
--- ---- numbers joined to one number, which is 0 if each is
-
-or_none : (a b : ℕ) → bit_or a b ≡ 0 → (a ≡ 0) × (b ≡ 0)
-or_none a b e = (omega (arith, or_add_and a b, and_le_l a b, and_le_r a b), omega (arith, or_add_and a b, and_le_l a b, and_le_r a b))
-
-pub record Gathers (f : ℕ → ℕ) (i n : ℕ) : Type 0 where
-  pub all : n ≡ 0 → (k : ℕ) → k < i → f k ≡ 0
-  pub none : ((k : ℕ) → k < i → f k ≡ 0) → n ≡ 0
-
-pub gathers_none : (f : ℕ → ℕ) → Gathers f 0 0
-gathers_none f = record { all = λ e k l. absurd (omega arith); none = λ h. refl }
-
-pub gathers_more : {f : ℕ → ℕ} {i n : ℕ} → Gathers f i n → Gathers f (i + 1) (bit_or n (f i))
-gathers_more {f} {i} {n} g = record {
-  all = λ e k l. (let z = or_none n (f i) e in ⊎_elim (λ (eq : k ≡ i). ap f eq ∙ z.1) (λ (ne : k ≡ i → ⊥). g.all z.0 k (omega (arith, ne))) (cases_eq k i));
-  none = λ h. ap₂ bit_or (g.none (λ k l. h k (omega arith))) (h i (omega arith));
-}
