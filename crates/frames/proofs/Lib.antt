@@ -1,3 +1,4 @@
 pub mod FirstRuns
 pub mod Gathered
 pub mod Made
+pub mod Masks

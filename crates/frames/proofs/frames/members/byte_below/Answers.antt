@@ -1,5 +1,5 @@
 use Rattle.std.proofs.Common.{◌-◌, ◌^◌, min, ap, ◌∙◌, arith}
-use Rattle.sets.proofs.Bits.{low_table}
+use Rattle.frames.proofs.Masks.{low_table}
 use Rattle.frames.proofs.frames.members.byte_below.Goals as goal
 
 pub returns : goal.returns
