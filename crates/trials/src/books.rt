@@ -38,7 +38,7 @@ impl<const B: usize, const G: usize> Books<B, G> {
         }
     }
 
-    // Books as they stand now.
+    // Books as they stand now. A head is never copied, so it has no Clone to derive one from.
     fn copied(&self) -> Self {
         Books {
             head: Head {
