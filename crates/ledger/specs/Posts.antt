@@ -3,6 +3,9 @@ use Rattle.std.specs.Prelude.{◌≡◌, ◌≢◌, ℕ, Bool, false, List, [], 
 use Rattle.std.specs.Option.{unwrap_or}
 use Rattle.arrayvec.specs.ArrayVec.{ArrayVec}
 use Rattle.ledger.specs.declared.ledger.Ledger.{Ledger}
+use Rattle.ledger.specs.declared.ledger.View.{View}
+use Rattle.tables.specs.declared.rows.Bank.{Bank}
+use Rattle.tables.specs.declared.rows.Grant.{Grant}
 use Rattle.tables.specs.declared.refusal.Refusal.{Refusal}
 use Rattle.tables.specs.Tables.{State}
 use Rattle.rules.specs.Rules.{Outcome}
@@ -10,6 +13,13 @@ use Rattle.rules.specs.Rules.{Outcome}
 -- the ledger that is lent, as the rules see it
 abbrev pub lent : {A : Type 0} → Ledger A → State A
 lent l = record { last = l.head.now.last_serial; banks = l.banks.now; grants = l.grants.now }
+
+abbrev pub viewed : {A : Type 0} → View A → State A
+viewed v = record { last = v.head.now.last_serial; banks = v.banks.now; grants = v.grants.now }
+
+-- a ledger of which only the tables are looked at
+abbrev pub in_tables : {A : Type 0} → List (Bank A) → List (Grant A) → State A
+in_tables banks grants = record { last = 0; banks = banks; grants = grants }
 
 -- what is lent stays the same head and the same two tables, whatever is written in them
 pub record SameParts {A : Type 0} (before after : Ledger A) : Type 0 where

@@ -5,11 +5,11 @@ ghost use Rattle.std.specs.Result.{result_err};
 ghost use Rattle.tables.specs.Tables.{bank_at, grant_at, chain, under};
 ghost use Rattle.tables.specs.Rows.{lost_bank, lost_grant};
 ghost use Rattle.rules.specs.Rules.{misfit, open_refusal, buy_refusal, back_refusal, closing_refusal, reclaim_refusal, stock_refusal};
-ghost use Rattle.ledger.specs.Posts.{lent, Marked};
+ghost use Rattle.ledger.specs.Posts.{lent, viewed, in_tables, Marked};
 
 use crate::branches::{Branch, Marks, marks_under};
 use crate::chains::{Chain, DEPTH, above, chain_of, is_live, nearest};
-use crate::ledger::Ledger;
+use crate::ledger::{Ledger, View};
 use kind::Kind;
 use tables::{Bank, Grant, Refusal, Table};
 
@@ -47,25 +47,43 @@ fn is_sound<K: Kind>(bank: &Bank<K>) -> bool
     bank.live && bank.limit.holds(&bank.used)
 }
 
-impl<K: Kind> Ledger<'_, K> {
-    // The tables have 1 to 64 banks and 1 to 1,024 grants.
-    pub(crate) fn check_lengths(&self) -> Result<(), Refusal>
-        ensures { result_err result ≡ misfit K.Kind.answers (lent self.now) }
+// The tables have 1 to 64 banks and 1 to 1,024 grants.
+fn check_lengths<K: Kind>(banks: &[Bank<K>], grants: &[Grant<K>]) -> Result<(), Refusal>
+    ensures { result_err result ≡ misfit K.Kind.answers (in_tables banks.now grants.now) }
+{
+    if !(1..=64).contains(&banks.len()) {
+        return Err(Refusal::TableLength(Table::Banks));
+    }
+    if !(1..=1024).contains(&grants.len()) {
+        return Err(Refusal::TableLength(Table::Grants));
+    }
+    Ok(())
+}
+
+impl<K: Kind> View<'_, K> {
+    pub(crate) fn check_stock(&self) -> Result<(), Refusal>
+        ensures { result_err result ≡ stock_refusal K.Kind.answers (viewed self.now) }
     {
-        if !(1..=64).contains(&self.banks.len()) {
-            return Err(Refusal::TableLength(Table::Banks));
-        }
-        if !(1..=1024).contains(&self.grants.len()) {
-            return Err(Refusal::TableLength(Table::Grants));
+        check_lengths(self.banks, self.grants)?;
+        if !is_sound(&self.banks[0]) {
+            return Err(Refusal::OutOfOrder(0));
         }
         Ok(())
+    }
+}
+
+impl<K: Kind> Ledger<'_, K> {
+    pub(crate) fn check_set_up(&self) -> Result<(), Refusal>
+        ensures { result_err result ≡ misfit K.Kind.answers (lent self.now) }
+    {
+        check_lengths(self.banks, self.grants)
     }
 
     pub(crate) fn check_open(&self, parent: u32, child: u32) -> Result<(), Refusal>
         ensures due { result_err result ≡ open_refusal K.Kind.answers (lent self.now) parent child }
         ensures within { OnOk result (child < length self.now.banks.now) }
     {
-        self.check_lengths()?;
+        check_lengths(self.banks, self.grants)?;
         if parent as usize >= self.banks.len() {
             return Err(Refusal::NoSuchBank(parent));
         }
@@ -92,7 +110,7 @@ impl<K: Kind> Ledger<'_, K> {
         ensures rows { IfOk result (λ c. c.items ≡ chain K.Kind.answers.empty self.now.banks.now bank) }
         ensures within { OnOk result ((row < length self.now.grants.now) × (self.now.head.now.last_serial < 4000000000)) }
     {
-        self.check_lengths()?;
+        check_lengths(self.banks, self.grants)?;
         if bank as usize >= self.banks.len() {
             return Err(Refusal::NoSuchBank(bank));
         }
@@ -125,7 +143,7 @@ impl<K: Kind> Ledger<'_, K> {
         ensures rows { IfOk result (λ c. c.items ≡ chain K.Kind.answers.empty self.now.banks.now (grant_at K.Kind.answers.empty self.now.grants.now row).bank) }
         ensures within { OnOk result (row < length self.now.grants.now) }
     {
-        self.check_lengths()?;
+        check_lengths(self.banks, self.grants)?;
         if row as usize >= self.grants.len() {
             return Err(Refusal::NoSuchGrant(row));
         }
@@ -152,7 +170,7 @@ impl<K: Kind> Ledger<'_, K> {
         ensures marks { IfOk result (λ m. Marked m (under K.Kind.answers.empty self.now.banks.now bank)) }
         ensures within { OnOk result ((bank < length self.now.banks.now) × (length self.now.grants.now ≤ 1024)) }
     {
-        self.check_lengths()?;
+        check_lengths(self.banks, self.grants)?;
         if bank as usize >= self.banks.len() {
             return Err(Refusal::NoSuchBank(bank));
         }
@@ -183,16 +201,5 @@ impl<K: Kind> Ledger<'_, K> {
             Some(short) => Err(Refusal::OutOfOrder(short)),
             None => Ok(Branch { chain, marks }),
         }
-    }
-
-    pub(crate) fn check_stock(&self) -> Result<(), Refusal>
-        ensures { result_err result ≡ stock_refusal K.Kind.answers (lent self.now) }
-    {
-        self.check_lengths()?;
-        let banks = &*self.banks;
-        if !is_sound(&banks[0]) {
-            return Err(Refusal::OutOfOrder(0));
-        }
-        Ok(())
     }
 }

@@ -13,5 +13,5 @@ mod setup;
 mod trade;
 mod uses;
 
-pub use ledger::Ledger;
+pub use ledger::{Ledger, View};
 pub use tables::{Bank, Grant, Head, Refusal, Table};

@@ -15,7 +15,7 @@ impl<K: Kind> Ledger<'_, K> {
         ensures meets { Meets (sets_up K.Kind.answers endowment (lent self.old)) result (lent self.new) }
         ensures books { KeepsBooks K.Kind.makes K.Kind.answers endowment result (lent self.new) }
     {
-        self.check_lengths()?;
+        self.check_set_up()?;
         fill(self.banks, Bank::free());
         fill(self.grants, Grant::free());
         self.banks[0] = Bank {

@@ -1,8 +1,8 @@
 // The calls of a branch's day: open, buy, give back, and ask for the stock.
-ghost use Rattle.ledger.specs.Posts.{lent, Meets, Places, SameParts};
+ghost use Rattle.ledger.specs.Posts.{lent, viewed, Meets, Places, SameParts};
 ghost use Rattle.rules.specs.Rules.{opens, buys, backs, stocks};
 
-use crate::ledger::Ledger;
+use crate::ledger::{Ledger, View};
 use crate::uses::change_uses;
 use kind::Kind;
 use tables::{Bank, Grant, Refusal};
@@ -61,9 +61,23 @@ impl<K: Kind> Ledger<'_, K> {
         ensures meets { Meets (stocks K.Kind.answers (lent self.now)) result (lent self.now) }
         ensures places { Places (stocks K.Kind.answers (lent self.now)) place.old place.new }
     {
+        let view = View {
+            head: &*self.head,
+            banks: &*self.banks,
+            grants: &*self.grants,
+        };
+        view.stock(place)
+    }
+}
+
+impl<K: Kind> View<'_, K> {
+    // Puts what the root bank has left in the caller's place.
+    pub fn stock(&self, place: &mut K) -> Result<u32, Refusal>
+        ensures meets { Meets (stocks K.Kind.answers (viewed self.now)) result (viewed self.now) }
+        ensures places { Places (stocks K.Kind.answers (viewed self.now)) place.old place.new }
+    {
         self.check_stock()?;
-        let banks = &*self.banks;
-        let root = &banks[0];
+        let root = &self.banks[0];
         *place = root.limit.remainder(&root.used);
         Ok(0)
     }

@@ -18,4 +18,4 @@ returns-clause-books g c =
       gives_join = laws.gives_join;
       tells_part = laws.tells_part;
       gives_remainder = laws.gives_remainder;
-    }) s _ c.in_ok-check_lengths.ensures (set_up_lem q c.args.endowment s _ _ _ c.empty.ensures (c.fill.ensures ∙ ap (replicate _) c.free.ensures) (c.fill-2.ensures ∙ ap (replicate _) c.free-2.ensures))
+    }) s _ c.in_ok-check_set_up.ensures (set_up_lem q c.args.endowment s _ _ _ c.empty.ensures (c.fill.ensures ∙ ap (replicate _) c.free.ensures) (c.fill-2.ensures ∙ ap (replicate _) c.free-2.ensures))
