@@ -2,5 +2,7 @@
 #![tactic(auto)]
 
 mod frames;
+mod runs;
 
-pub use frames::{FRAMES, FrameRuns, Frames};
+pub use frames::{FRAMES, Frames};
+pub use runs::FrameRuns;

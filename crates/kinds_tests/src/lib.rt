@@ -46,7 +46,7 @@ mod tests {
         let high = Frames::from_run(250, 256)?;
         let both = low.join(&high);
         assert!(rt; both.has(255));
-        assert_eq!(rt; both.runs().len(), 2);
+        assert_eq!(rt; both.runs().as_slice().len(), 2);
         assert!(rt; both.holds(&high));
         assert!(rt; both.remainder(&high).same(&low));
         Ok(())

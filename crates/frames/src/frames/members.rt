@@ -1,26 +1,20 @@
 // Frames made from a run, and read back: one by one, or run by run.
 ghost use Rattle.std.specs.Prelude.{◌≡◌, ◌-◌, ◌*◌, ◌<◌, ◌≤◌, IfOk, Decides};
 ghost use Rattle.frames.specs.FrameSets.{frame, make_frames, frame_runs};
-ghost use Rattle.frames.specs.Listed.{FirstRun};
+ghost use Rattle.frames.specs.Listed.{FirstRun, listed};
 ghost use Rattle.frames.specs.Sizes.{frame_count};
 ghost use Rattle.sets.specs.Bytes.{mask};
 ghost use Rattle.sets.specs.Members.{Has};
 ghost use Rattle.sets.specs.Runs.{within};
 
 use crate::frames::{BYTES, FRAMES, Frames};
-use arrayvec::ArrayVec;
+use crate::runs::FrameRuns;
 use kind::AmountRefusal;
 use sets::Run;
 use std::array;
 
 // The number after the last frame.
 const END: u16 = FRAMES as u16;
-
-// No set of frames has more runs.
-const RUN_PLACES: usize = 128;
-
-// The runs of a set of frames.
-pub type FrameRuns = ArrayVec<Run, RUN_PLACES>;
 
 // The lowest n bits of a byte, at n.
 const LOW_BITS: [u8; 9] = [0, 1, 3, 7, 15, 31, 63, 127, 255];
@@ -66,9 +60,9 @@ impl Frames {
 
     // The longest runs of the frames, lowest first.
     pub fn runs(&self) -> FrameRuns
-        ensures { result.items ≡ frame_runs self.now }
+        ensures { listed result ≡ frame_runs self.now }
     {
-        let mut list = FrameRuns::new();
+        let mut list = FrameRuns::none();
         let mut at = 0;
         'scan: while let Some(run) = self.run_from(at) {
             list.push(run);
