@@ -5,6 +5,8 @@ mod members;
 ghost use Rattle.frames.specs.Sizes.{frame_bytes};
 ghost use Rattle.sets.specs.Bytes.{Bytes};
 
+pub use members::FrameRuns;
+
 // How many numbers a set tells apart.
 pub const FRAMES: u32 = 256;
 

@@ -2,7 +2,5 @@
 #![tactic(auto)]
 
 mod frames;
-mod runs;
 
-pub use frames::{FRAMES, Frames};
-pub use runs::FrameRuns;
+pub use frames::{FRAMES, FrameRuns, Frames};

@@ -1,20 +1,27 @@
 // Frames made from a run, and read back: one by one, or run by run.
 ghost use Rattle.std.specs.Prelude.{◌≡◌, ◌-◌, ◌*◌, ◌<◌, ◌≤◌, IfOk, Decides};
 ghost use Rattle.frames.specs.FrameSets.{frame, make_frames, frame_runs};
-ghost use Rattle.frames.specs.Listed.{FirstRun, listed};
+ghost use Rattle.frames.specs.Listed.{FirstRun};
 ghost use Rattle.frames.specs.Sizes.{frame_count};
+ghost use Rattle.lists.specs.Listed.{listed};
 ghost use Rattle.sets.specs.Bytes.{mask};
 ghost use Rattle.sets.specs.Members.{Has};
 ghost use Rattle.sets.specs.Runs.{within};
 
 use crate::frames::{BYTES, FRAMES, Frames};
-use crate::runs::FrameRuns;
 use kind::AmountRefusal;
+use lists::FixedList;
 use sets::Run;
 use std::array;
 
 // The number after the last frame.
 const END: u16 = FRAMES as u16;
+
+// No set of frames has more runs.
+const RUN_PLACES: usize = 128;
+
+// The runs of a set of frames.
+pub type FrameRuns = FixedList<Run, RUN_PLACES>;
 
 // The lowest n bits of a byte, at n.
 const LOW_BITS: [u8; 9] = [0, 1, 3, 7, 15, 31, 63, 127, 255];
@@ -62,10 +69,11 @@ impl Frames {
     pub fn runs(&self) -> FrameRuns
         ensures { listed result ≡ frame_runs self.now }
     {
-        let mut list = FrameRuns::none();
+        let mut list = FrameRuns::new(Run::default());
         let mut at = 0;
         'scan: while let Some(run) = self.run_from(at) {
-            list.push(run);
+            // There is a place for each run.
+            let _ = list.push(run);
             at = run.to;
         }
         list

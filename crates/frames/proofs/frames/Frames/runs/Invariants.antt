@@ -1,6 +1,6 @@
 use Rattle.std.proofs.Common.{◌≡◌, ◌-◌, ◌≤◌, ◌++◌}
 use Rattle.frames.specs.FrameSets.{frame, frame_runs}
-use Rattle.frames.specs.Listed.{listed}
+use Rattle.lists.specs.Listed.{listed}
 use Rattle.frames.specs.Sizes.{frame_count}
 use Rattle.sets.specs.Runs.{runs_from}
 use Rattle.frames.proofs.frames.Frames.runs.Given as goal
