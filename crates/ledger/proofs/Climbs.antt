@@ -1,8 +1,8 @@
 -- The climb from a row up its chain.
-use Rattle.std.proofs.Common.{◌≡◌, ℕ, zero, suc, ◌+◌, ◌-◌, ◌<◌, ◌≤◌, Bool, true, false, cond, eqb, List, [], ◌∷◌, ◌++◌, length, Some, None, Option, sym, refl, ap, ◌∙◌, subst, ⊎_elim, arith, length-append}
+use Rattle.std.proofs.Common.{◌≡◌, ℕ, zero, suc, ◌+◌, ◌-◌, ◌<◌, ◌≤◌, Bool, true, false, cond, eqb, List, [], ◌∷◌, ◌++◌, length, Some, None, Option, unwrap_or, sym, refl, ap, ◌∙◌, subst, ⊎_elim, arith, length-append}
 use Rattle.std.specs.List.{AllByRecursion}
-use Rattle.std.specs.Option.{UnwrapsOrElse}
-use Rattle.arrayvec.specs.ArrayVec.{ArrayVec}
+use Rattle.lists.specs.Listed.{listed}
+use Rattle.lists.specs.declared.list.FixedList.{FixedList}
 use Rattle.std.proofs.lemmas.List.{get_or_past}
 use Rattle.std.proofs.lemmas.Bool.{cond-false, ne_eqb, eqb-true, both_ways, cases_lt}
 use Rattle.tables.specs.declared.rows.Bank.{Bank}
@@ -44,9 +44,9 @@ ends_in [] row e = cc
 ends_in (x ∷ rows) row e = cc
 
 -- the rows of a climb, none where it failed
-pub climbed_rows : {rows : List ℕ} (r : Option (ArrayVec ℕ)) {chain : ArrayVec ℕ} → Climbed rows r → UnwrapsOrElse r (λ v. v.items ≡ []) chain → chain.items ≡ rows
-climbed_rows None none made = made ∙ sym none
-climbed_rows (Some c) is made = ap (λ (v : ArrayVec ℕ). v.items) made ∙ is.0
+pub climbed_rows : {rows : List ℕ} (r : Option (FixedList ℕ 16)) (none : FixedList ℕ 16) → listed none ≡ [] → Climbed rows r → listed (unwrap_or r none) ≡ rows
+climbed_rows None none is-none lost = is-none ∙ sym lost
+climbed_rows (Some c) none is-none is = is.0
 
 all_above : (P : ℕ → Type 0) (xs : List ℕ) → AllByRecursion P xs → AllByRecursion P (above xs)
 all_above P [] h = tt
@@ -70,9 +70,6 @@ module _ {A : Type 0} (none : A) (banks : List (Bank A)) where
 
   pub climb_fails : {b row : ℕ} {rows : List ℕ} → Climb b row rows → (bank_at none banks row).live ≡ false → chain none banks b ≡ []
   climb_fails {b} {row} {rows} c e = c.so_far ∙ ap (under_all rows) (stop (16 - length rows) row e) ∙ under-nothing rows
-
-  pub climb-full : {b row : ℕ} {rows : List ℕ} → Climb b row rows → length rows ≡ 16 → chain none banks b ≡ []
-  climb-full {b} {row} {rows} c e = c.so_far ∙ ap (λ (n : ℕ). under_all rows (chain_in none (16 - n) banks row)) e ∙ under-nothing rows
 
   module _ {b row : ℕ} {rows : List ℕ} (c : Climb b row rows) (room : length rows < 16) (live : (bank_at none banks row).live ≡ true) where
     abbrev left : ℕ

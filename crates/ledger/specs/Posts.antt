@@ -1,7 +1,8 @@
 -- How a call's contract reads off the rule of the call. Assumes nothing.
 use Rattle.std.specs.Prelude.{◌≡◌, ◌≢◌, ℕ, Bool, false, List, [], Option, Result, MatchOption, slice_index_or}
 use Rattle.std.specs.Option.{unwrap_or}
-use Rattle.arrayvec.specs.ArrayVec.{ArrayVec}
+use Rattle.lists.specs.Listed.{listed}
+use Rattle.lists.specs.declared.list.FixedList.{FixedList}
 use Rattle.ledger.specs.declared.ledger.Ledger.{Ledger}
 use Rattle.ledger.specs.declared.ledger.View.{View}
 use Rattle.tables.specs.declared.rows.Bank.{Bank}
@@ -37,8 +38,8 @@ pub record Places {A : Type 0} (o : Outcome A) (before place : A) : Type 0 where
   pub holds : place ≡ unwrap_or o.placed before
 
 -- the rows of a chain, if it is whole: a chain that is not has no row
-abbrev pub Climbed : List ℕ → Option (ArrayVec ℕ) → Type 0
-Climbed rows r = MatchOption r (rows ≡ []) (λ c. (c.items ≡ rows) × (rows ≢ []))
+abbrev pub Climbed : List ℕ → Option (FixedList ℕ 16) → Type 0
+Climbed rows r = MatchOption r (rows ≡ []) (λ c. (listed c ≡ rows) × (rows ≢ []))
 
 -- is the row among those marked
 abbrev pub marked : List Bool → ℕ → Bool

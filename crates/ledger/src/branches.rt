@@ -31,7 +31,7 @@ pub(crate) fn marks_under<K: Kind>(banks: &[Bank<K>], bank: u32) -> Result<Marks
     let mut marks = [false; 64];
     for (row, at) in banks.iter().enumerate() {
         match chain_of(banks, row as u32) {
-            Some(chain) => marks[row] = chain.contains(&bank),
+            Some(chain) => marks[row] = chain.as_slice().contains(&bank),
             None if at.live => return Err(Refusal::OutOfOrder(row as u32)),
             None => {}
         }

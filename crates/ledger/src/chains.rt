@@ -3,18 +3,19 @@ ghost use Rattle.std.specs.Prelude.{◌≡◌, ◌<◌, Bool, true, length, Matc
 ghost use Rattle.std.specs.List.{AllByRecursion};
 ghost use Rattle.tables.specs.Tables.{among, bank_at, chain, lost};
 ghost use Rattle.tables.specs.Rows.{above, nearest};
+ghost use Rattle.lists.specs.Listed.{listed};
 ghost use Rattle.ledger.specs.Passes.{Tells};
 ghost use Rattle.ledger.specs.Posts.{Climbed};
 
-use arrayvec::ArrayVec;
 use kind::Kind;
+use lists::FixedList;
 use tables::Bank;
 
 // No whole chain has more rows.
 pub(crate) const DEPTH: usize = 16;
 
 // The rows of a whole chain, the lowest first.
-pub(crate) type Chain = ArrayVec<u32, DEPTH>;
+pub(crate) type Chain = FixedList<u32, DEPTH>;
 
 // Does `bank` stand in the table, live?
 pub(crate) fn is_live<K: Kind>(banks: &[Bank<K>], bank: u32) -> bool
@@ -28,10 +29,12 @@ pub(crate) fn is_live<K: Kind>(banks: &[Bank<K>], bank: u32) -> bool
 pub(crate) fn chain_of<K: Kind>(banks: &[Bank<K>], bank: u32) -> Option<Chain>
     ensures { Climbed (chain K.Kind.answers.empty banks.now bank) result }
 {
-    let mut rows = Chain::new();
+    let mut rows = Chain::new(0);
     let mut row = bank;
-    'climb: while !rows.is_full() && is_live(banks, row) {
-        rows.push(row);
+    'climb: while is_live(banks, row) {
+        let Ok(()) = rows.push(row) else {
+            return None;
+        };
         if row == 0 {
             return Some(rows);
         }
@@ -42,7 +45,7 @@ pub(crate) fn chain_of<K: Kind>(banks: &[Bank<K>], bank: u32) -> Option<Chain>
 
 // All rows of a chain but the first.
 pub(crate) fn above(chain: &Chain) -> &[u32]
-    ensures { result.now ≡ above chain.now.items }
+    ensures { result.now ≡ above (listed chain.now) }
 {
     match chain.as_slice() {
         [_, rest @ ..] => rest,

@@ -4,6 +4,7 @@ ghost use Rattle.std.specs.Option.{option_map};
 ghost use Rattle.std.specs.Result.{result_err};
 ghost use Rattle.tables.specs.Tables.{bank_at, grant_at, chain, under};
 ghost use Rattle.tables.specs.Rows.{lost_bank, lost_grant};
+ghost use Rattle.lists.specs.Listed.{listed};
 ghost use Rattle.rules.specs.Rules.{misfit, open_refusal, buy_refusal, back_refusal, closing_refusal, reclaim_refusal, stock_refusal};
 ghost use Rattle.ledger.specs.Posts.{lent, viewed, in_tables, Marked};
 
@@ -96,7 +97,7 @@ impl<K: Kind> Ledger<'_, K> {
         let Some(chain) = chain_of(self.banks, parent) else {
             return Err(Refusal::OutOfOrder(parent));
         };
-        if chain.len() >= DEPTH {
+        if chain.as_slice().len() >= DEPTH {
             return Err(Refusal::ChainFull(parent));
         }
         if is_live(self.banks, child) {
@@ -107,7 +108,7 @@ impl<K: Kind> Ledger<'_, K> {
 
     pub(crate) fn check_buy(&self, bank: u32, row: u32, amount: &K) -> Result<Chain, Refusal>
         ensures due { result_err result ≡ buy_refusal K.Kind.answers (lent self.now) bank row amount.now }
-        ensures rows { IfOk result (λ c. c.items ≡ chain K.Kind.answers.empty self.now.banks.now bank) }
+        ensures rows { IfOk result (λ c. listed c ≡ chain K.Kind.answers.empty self.now.banks.now bank) }
         ensures within { OnOk result ((row < length self.now.grants.now) × (self.now.head.now.last_serial < 4000000000)) }
     {
         check_lengths(self.banks, self.grants)?;
@@ -140,7 +141,7 @@ impl<K: Kind> Ledger<'_, K> {
 
     pub(crate) fn check_back(&self, row: u32, serial: u32) -> Result<Chain, Refusal>
         ensures due { result_err result ≡ back_refusal K.Kind.answers (lent self.now) row serial }
-        ensures rows { IfOk result (λ c. c.items ≡ chain K.Kind.answers.empty self.now.banks.now (grant_at K.Kind.answers.empty self.now.grants.now row).bank) }
+        ensures rows { IfOk result (λ c. listed c ≡ chain K.Kind.answers.empty self.now.banks.now (grant_at K.Kind.answers.empty self.now.grants.now row).bank) }
         ensures within { OnOk result (row < length self.now.grants.now) }
     {
         check_lengths(self.banks, self.grants)?;
@@ -189,12 +190,12 @@ impl<K: Kind> Ledger<'_, K> {
 
     pub(crate) fn check_reclaim(&self, bank: u32) -> Result<Branch, Refusal>
         ensures due { result_err result ≡ reclaim_refusal K.Kind.answers (lent self.now) bank }
-        ensures rows { IfOk result (λ b. b.chain.items ≡ chain K.Kind.answers.empty self.now.banks.now bank) }
+        ensures rows { IfOk result (λ b. listed b.chain ≡ chain K.Kind.answers.empty self.now.banks.now bank) }
         ensures marks { IfOk result (λ b. Marked b.marks (under K.Kind.answers.empty self.now.banks.now bank)) }
         ensures within { OnOk result ((bank < length self.now.banks.now) × (length self.now.grants.now ≤ 1024)) }
     {
         let marks = self.check_closing(bank)?;
-        let chain = chain_of(self.banks, bank).unwrap_or_default();
+        let chain = chain_of(self.banks, bank).unwrap_or(Chain::new(0));
         let banks = &*self.banks;
         let used = &banks[bank as usize].used;
         match nearest(banks, above(&chain), |at| at.is_short(used)) {

@@ -19,7 +19,7 @@ loop-row-preserved g c =
     elim c.match-chain_of.branch [
       | in-Some w ↦ record {
         scanned = lowest_more _ _ _ so_far.scanned row c.loop-row-test.true (and_right _ _ (a_chain _ w.in-Some.ensures.1));
-        made = rw w.marks-is (marks_more so_far.made few _ (w.contains.ensures.value ∙ any-among c.args.bank _ ∙ ap (among c.args.bank) (w.deref.ensures.0 ∙ w.in-Some.ensures.0)));
+        made = rw w.marks-is (marks_more so_far.made few _ (w.contains.ensures.value ∙ any-among c.args.bank _ ∙ ap (among c.args.bank) (w.as_slice.ensures ∙ w.in-Some.ensures.0)));
       }
       | in-None+else-at w ↦ record {
         scanned = lowest_more _ _ _ so_far.scanned row c.loop-row-test.true (and_left _ _ (ap (λ (b : Bank g.row.K.Denot). b.live) (sym c.index-banks-row.is) ∙ w.if-at.false));
