@@ -1,14 +1,16 @@
 -- The turns of a walk over two sets: each is a step over their ends, and those up to the last tell what seconds the sets share.
-use Rattle.std.proofs.Common.{◌≡◌, ℕ, ◌+◌, ◌%◌, ◌<◌, ◌≤◌, min, Bool, true, false, cond, not, ◌&&◌, eqb, ◌⊎◌, List, [], ◌∷◌, Some, None, Option, Decides, MatchOption, sym, refl, ap, ◌∙◌, subst, inl, inr, ⊎_elim, arith, Bor}
-use Rattle.std.proofs.lemmas.Bool.{false≢true, cases_lt, cond-true, cond-false, eqb-true, eq-eqb, ne_eqb}
+use Rattle.std.proofs.Common.{◌≡◌, ℕ, ◌+◌, ◌%◌, ◌<◌, ◌≤◌, min, Bool, true, false, cond, not, ◌&&◌, eqb, ◌⊎◌, List, [], ◌∷◌, Some, None, Option, Decides, MatchOption, MatchBool, sym, refl, ap, ◌∙◌, subst, inl, inr, ⊎_elim, arith, Bor}
+use Rattle.std.proofs.lemmas.Bool.{false≢true, cases_lt, cond-true, cond-false, eqb-true, eq-eqb, ne_eqb, leb-false}
 use Rattle.std.proofs.lemmas.Bool.Decides.{nat_tests}
-use Rattle.std.specs.Fn.{Called}
+use Rattle.std.specs.Fn.{Called, CalledAt}
 use Rattle.std.specs.Iterator.{Yields, YieldsThen}
+use Rattle.std.specs.declared.iter.TakeWhile.{TakeWhile}
+use Rattle.std.specs.Iterator.Adapters.{take_while_source, take_while_done, take_while_callee, take_while_steps}
 use Rattle.std.specs.List.{FoldsTo}
 use denote.Param.Members.{Mut}
 use Rattle.sets.proofs.Covering.{ends_rise, covered-at}
 use Rattle.sets.proofs.Rising.{Rises}
-use Rattle.sets.proofs.Walks.{Seen, Step, step, seen_step, step_covered, step_found}
+use Rattle.sets.proofs.Walks.{Seen, Step, step, seen_step, step_covered, step_found, end_even}
 use Rattle.windows.specs.Sizes.{second_count, window_places}
 use Rattle.windows.specs.Walking.{end_at, next_end, passed, walked, turn_of, start_of, WalksOn}
 use Rattle.windows.specs.WindowSets.{window, Reaches}
@@ -107,39 +109,108 @@ met v w u low m =
     let f = step_found second_count window_places x.runs y.runs (tidy_of x) (tidy_of y) (next_end w) _ _ s low (eqb-true _ _ m.0) in
     (next_end w, f.0, f.1, f.2 ∙ sym (odd_is _) ∙ m.1)
 
--- past all ends there is none
-unmet_end : (v : ℕ) (w : Walk) → Unmet v w → second_count < next_end w → Reaches w.one.now w.other.now v → ⊥
-unmet_end v w u past r = u.none r.0 (omega (arith, r.1)) r.1 (r.2, r.3)
+-- past all ends of the one set there is none
+unmet_end : (v : ℕ) (w : Walk) → Unmet v w → second_count < end_at w.one.now w.passed_in_one → Reaches w.one.now w.other.now v → ⊥
+unmet_end v w u past (k, l, m, n) =
+    let x = w.one.now in
+    let e = end_at x in
+    let i = w.passed_in_one in
+    ⊎_elim
+    (λ (h : k < next_end w). u.none k h l (m, n))
+    (λ (h : next_end w ≤ k).
+    let below : (q : ℕ) → q < i → e q ≤ k = λ q g. omega (arith, u.seen.0 q g) in
+    let even = end_even second_count window_places x.runs (tidy_of x) i (λ q g. omega (arith, below q g)) past in
+    let out = covered-at second_count window_places x.runs (tidy_of x) i k (omega arith) below (omega arith) in
+    absurd (omega (arith, out, m, even)))
+    (cases_lt k (next_end w))
 
-module _ {F : Type 0} (g : Mut F (Turn × Unit {0}) Bool) (f : F) (v : ℕ) (meets : Turn → Bool)
+module _ {F P : Type 0} (g : Mut F (Turn × Unit {0}) Bool) (h : Mut P (Bor Turn × Unit {0}) Bool) (f : F) (p : P) (v : ℕ) (meets : Turn → Bool)
     (test : (t : Turn) → Decides (meets t) (Meets v t))
-    (reads : (t : Turn) (b : Bool) (q : F) → Called g f (t, tt) b q → (q ≡ f) × (b ≡ meets t)) where
+    (reads : (t : Turn) (b : Bool) (q : F) → Called g f (t, tt) b q → (q ≡ f) × (b ≡ meets t))
+    (keeps : (t : Turn) (b : Bool) (q : P) → CalledAt h p t b q → (q ≡ p) × (b ≡ t.one_left)) (x y : Bor Windows) where
+  abbrev walk : TakeWhile Walk P → Walk
+  walk = take_while_source
+
+  abbrev Steps : TakeWhile Walk P → Option Turn → TakeWhile Walk P → Type 0
+  Steps = take_while_steps WalksOn h
+
+  -- the walk over x and y goes on, and has met nothing
+  record Going (s : TakeWhile Walk P) : Type 0 where
+    done : take_while_done s ≡ false
+    callee : take_while_callee s ≡ p
+    one : (walk s).one ≡ x
+    other : (walk s).other ≡ y
+    unmet : Unmet v (walk s)
+
+  -- what a step took from the walk, and whether that was handed on
+  abbrev Took : TakeWhile Walk P → Option Turn → TakeWhile Walk P → Type 0
+  Took s r t = (o : Option Turn) × WalksOn (walk s) o (walk t) × MatchOption o ((r ≡ None) × (take_while_done t ≡ false))
+      (λ z. (b : Bool) × CalledAt h (take_while_callee s) z b (take_while_callee t)
+      × MatchBool b ((r ≡ Some z) × (take_while_done t ≡ false)) ((r ≡ None) × (take_while_done t ≡ true)))
+
+  took : (s t : TakeWhile Walk P) (r : Option Turn) → Going s → Steps s r t → Took s r t
+  took s t r on k = subst (λ b. MatchBool b ((r ≡ None) × (t ≡ s)) (Took s r t)) on.done k
+
+  -- the turn was handed on if an end was left
+  kept : (s t : TakeWhile Walk P) (z : Turn) (b : Bool) → Going s → CalledAt h (take_while_callee s) z b (take_while_callee t) → (take_while_callee t ≡ p) × (b ≡ z.one_left)
+  kept s t z b on k = keeps z b _ (subst (λ q. CalledAt h q z b (take_while_callee t)) on.callee k)
+
+  -- a turn that comes is the walk's
+  came : (s t : TakeWhile Walk P) (z : Turn) → Going s → Took s (Some z) t
+      → WalksOn (walk s) (Some z) (walk t) × (take_while_callee t ≡ p) × (take_while_done t ≡ false)
+  came s t z on (None, w, k) = absurd (cc (k.0))
+  came s t z on (Some a, w, (false, called, k)) = absurd (cc (k.0))
+  came s t z on (Some a, w, (true, called, k)) = let e : a ≡ z = cc (k.0) in (subst (λ b. WalksOn (walk s) (Some b) (walk t)) e w, (kept s t a true on called).0, k.1)
+
+  -- where none comes, no end of the one set is left
+  ended : (s t : TakeWhile Walk P) → Going s → Took s None t → second_count < end_at (walk s).one.now (walk s).passed_in_one
+  ended s t on (None, past, k) = omega (arith, past)
+  ended s t on (Some a, w, (true, called, k)) = absurd (cc (k.0))
+  ended s t on (Some a, w, (false, called, k)) = leb-false _ _ (ap (λ z. z.one_left) (sym w.0) ∙ sym (kept s t a false on called).1)
+
   -- all turns that failed the test leave nothing found
-  unmet_after : (xs : List Turn) (p j : F) (w t : Walk) → p ≡ f → Unmet v w → Yields WalksOn w xs t → FoldsTo (λ p x q. Called g p (x, tt) false q) p xs j
-      → (j ≡ f) × Unmet v t × (t.one ≡ w.one) × (t.other ≡ w.other)
-  unmet_after [] p j w t e u y h = (sym h ∙ e, subst (Unmet v) y u, ap (λ s. s.one) (sym y), ap (λ s. s.other) (sym y))
-  unmet_after (x ∷ xs) p j w t e u (w', (is, on, low), y) (p', called, h) =
-      let said = reads x false p' (subst (λ s. Called g s (x, tt) false p') e called) in
-      let failed : Meets v (turn_of w) → ⊥ = λ m. false≢true (said.1 ∙ ap meets is ∙ (test (turn_of w)).1 m) in
-      let rest = unmet_after xs p' j w' t said.0 (subst (Unmet v) (sym on) (unmet-walked v w u low failed)) y h in
-      (rest.0, rest.1, rest.2 ∙ ap (λ s. s.one) on, rest.3 ∙ ap (λ s. s.other) on)
+  unmet_after : (zs : List Turn) (q j : F) (s t : TakeWhile Walk P) → q ≡ f → Going s → Yields Steps s zs t → FoldsTo (λ p z q. Called g p (z, tt) false q) q zs j
+      → (j ≡ f) × Going t
+  unmet_after [] q j s t e on n k = (sym k ∙ e, subst Going n on)
+  unmet_after (z ∷ zs) q j s t e on (s', n, ns) (q', called, k) =
+      let c = came s s' z on (took s s' (Some z) on n) in
+      let (is, to, low) = c.0 in
+      let said = reads z false q' (subst (λ a. Called g a (z, tt) false q') e called) in
+      let failed : Meets v (turn_of (walk s)) → ⊥ = λ m. false≢true (said.1 ∙ ap meets is ∙ (test (turn_of (walk s))).1 m) in
+      let next : Going s' = record {
+        done = c.2;
+        callee = c.1;
+        one = ap (λ w. w.one) to ∙ on.one;
+        other = ap (λ w. w.other) to ∙ on.other;
+        unmet = subst (Unmet v) (sym to) (unmet-walked v (walk s) on.unmet low failed);
+      } in
+      unmet_after zs q' j s' t said.0 next ns k
+
+  -- the turn at which `any` stops shows one, and where it does not stop there is none
+  tells : (t u : TakeWhile Walk P) (o : Option Turn) (r : Bool) (j : F) → j ≡ f → Going t → Steps t o u
+      → MatchOption o (r ≡ false) (λ z. (r ≡ true) × ((k : F) × Called g j (z, tt) true k))
+      → Decides r (Reaches x.now y.now v)
+  tells t u None r j same on n none =
+      let past = ended t u on (took t u None on n) in
+      (λ e. absurd (false≢true (sym none ∙ e)), λ m. absurd (unmet_end v (walk t) on.unmet past (rw (on.one, on.other) m)))
+  tells t u (Some z) r j same on n (found, (k, called)) =
+      let ((is, _, low), _, _) = came t u z on (took t u (Some z) on n) in
+      let said = reads z true k (subst (λ q. Called g q (z, tt) true k) same called) in
+      let shown = met v (walk t) on.unmet low ((test (turn_of (walk t))).0 (sym (said.1 ∙ ap meets is))) in
+      (λ _. rw (on.one, on.other) at shown, λ _. found)
 
   -- what `any` answers where it takes the test at each turn
-  pub any_reaches : (x y : Bor Windows) (w u : Walk) (r : Bool) → w ≡ start_of x y
-      → (xs : List Turn) × (o : Option Turn) × (j : F) × YieldsThen WalksOn w xs o u × FoldsTo (λ p x q. Called g p (x, tt) false q) f xs j
-      × MatchOption o (r ≡ false) (λ x. (r ≡ true) × ((h : F) × Called g j (x, tt) true h))
+  pub any_reaches : (s u : TakeWhile Walk P) (r : Bool) → walk s ≡ start_of x y → take_while_done s ≡ false → take_while_callee s ≡ p
+      → (zs : List Turn) × (o : Option Turn) × (j : F) × YieldsThen Steps s zs o u × FoldsTo (λ p z q. Called g p (z, tt) false q) f zs j
+      × MatchOption o (r ≡ false) (λ z. (r ≡ true) × ((k : F) × Called g j (z, tt) true k))
       → Decides r (Reaches x.now y.now v)
-  any_reaches x y w u r is (xs, None, k, (t, yields, past), folds, none) =
-      let a = unmet_after xs f k w t refl (start v w (ap (λ s. s.passed_in_one) is) (ap (λ s. s.passed_in_other) is)) yields folds in
-      let one = a.2 ∙ ap (λ s. s.one) is in
-      let other = a.3 ∙ ap (λ s. s.other) is in (
-        λ e. absurd (false≢true (sym none ∙ e)),
-        λ m. absurd (unmet_end v t a.1 past (subst (λ s. Reaches s.now t.other.now v) (sym one) (subst (λ s. Reaches x.now s.now v) (sym other) m))),
-      )
-  any_reaches x y w u r is (xs, Some z, k, (t, yields, (on, to, low)), folds, (found, (q, called))) =
-      let a = unmet_after xs f k w t refl (start v w (ap (λ s. s.passed_in_one) is) (ap (λ s. s.passed_in_other) is)) yields folds in
-      let one = a.2 ∙ ap (λ s. s.one) is in
-      let other = a.3 ∙ ap (λ s. s.other) is in
-      let said = reads z true q (subst (λ s. Called g s (z, tt) true q) a.0 called) in
-      let shown = met v t a.1 low ((test (turn_of t)).0 (sym (said.1 ∙ ap meets on))) in
-      (λ _. subst (λ s. Reaches s.now y.now v) one (subst (λ s. Reaches t.one.now s.now v) other shown), λ _. found)
+  any_reaches s u r is done callee (zs, o, j, (t, ys, n), folds, told) =
+      let first : Going s = record {
+        done = done;
+        callee = callee;
+        one = ap (λ w. w.one) is;
+        other = ap (λ w. w.other) is;
+        unmet = start v (walk s) (ap (λ w. w.passed_in_one) is) (ap (λ w. w.passed_in_other) is);
+      } in
+      let (same, on) = unmet_after zs f j s t refl first ys folds in
+      tells t u o r j same on n told

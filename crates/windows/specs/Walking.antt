@@ -1,5 +1,5 @@
 -- A walk over the ends of the runs of two sets: the lowest end that is left comes next. Assumes nothing.
-use Rattle.std.specs.Prelude.{◌≡◌, ℕ, ◌+◌, ◌*◌, ◌%◌, ◌<◌, ◌≤◌, min, cond, Option, MatchOption, ◌==◌}
+use Rattle.std.specs.Prelude.{◌≡◌, ℕ, ◌+◌, ◌*◌, ◌%◌, ◌<◌, ◌≤◌, min, nat_le, Bool, cond, Option, MatchOption, ◌==◌}
 use Rattle.std.specs.Borrow.{Bor}
 use Rattle.sets.specs.Ends.{end_of}
 use Rattle.windows.specs.Sizes.{second_count, window_places}
@@ -34,10 +34,15 @@ walked w = record w {
   passed_in_other = passed (next_end w) w.other.now w.passed_in_other;
 }
 
+-- is an end of the one set left?
+abbrev pub one_left : Walk → Bool
+one_left w = nat_le (end_at w.one.now w.passed_in_one) second_count
+
 -- the turn at the next end: a set has the seconds after it if an odd number of ends is passed
 abbrev pub turn_of : Walk → Turn
 turn_of w = record {
   at = next_end w;
+  one_left = one_left w;
   in_one = (walked w).passed_in_one % 2 == 1;
   in_other = (walked w).passed_in_other % 2 == 1;
 }

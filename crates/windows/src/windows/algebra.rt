@@ -62,7 +62,10 @@ impl Kind for Windows {
     }
 
     fn fits(&self, other: &Self) -> bool {
-        !self.walk(other).any(|turn| turn.in_one && turn.in_other)
+        !self
+            .walk(other)
+            .take_while(|turn| turn.one_left)
+            .any(|turn| turn.in_one && turn.in_other)
     }
 
     // As for frames: one function for both would need a trait of its own, with `difference` and what it says.
@@ -75,7 +78,10 @@ impl Kind for Windows {
     }
 
     fn holds(&self, part: &Self) -> bool {
-        !part.walk(self).any(|turn| turn.in_one && !turn.in_other)
+        !part
+            .walk(self)
+            .take_while(|turn| turn.one_left)
+            .any(|turn| turn.in_one && !turn.in_other)
     }
 
     fn remainder(&self, part: &Self) -> Self {
