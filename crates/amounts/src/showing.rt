@@ -6,7 +6,7 @@ use kinds::EngineAmount;
 use notation::Runs;
 use std::fmt;
 
-// An amount, shown as its count, its frames and its windows with a space between them.
+// An amount, shown as its count, its frames and its windows with a space between them. Its own type is another crate's.
 #[derive(Clone, Copy)]
 pub struct AmountText<'a>(pub &'a EngineAmount);
 

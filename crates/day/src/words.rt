@@ -22,7 +22,7 @@ fn word(refusal: Refusal) -> &'static str {
     }
 }
 
-// An answer: the result, or the number and the place of the refusal and a word for it.
+// An answer: the result, or the number and the place of the refusal and a word for it. Its own type is the library's.
 #[derive(Clone, Copy)]
 pub struct AnswerText(pub Result<u32, Refusal>);
 

@@ -12,7 +12,7 @@ pub const FRAMES: u32 = 256;
 
 const BYTES: usize = 32;
 
-// Frame f is bit f % 8 of byte f / 8, bit 0 lowest.
+// Frame f is bit f % 8 of byte f / 8, bit 0 lowest. An amount lies in a row, so the bytes are an array.
 #[derive(Clone, Copy, PartialEq, Eq)]
 pub struct Frames {
     bytes: [u8; BYTES],

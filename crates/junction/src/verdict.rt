@@ -20,7 +20,7 @@ fn shared_frame(held: &Frames, wanted: &Frames) -> Option<u16>
     (0..FRAMES as u16).find(|k| held.has(*k as u8) && wanted.has(*k as u8))
 }
 
-// The first second that both have. The two types share no trait that has `has`, and one for these two lines would be longer.
+// The first second that both have. A trait that has `has`, or a function of two closures, would be longer than these two lines.
 #[tactic(auto, unfolding(crate::specs::Verdicts::first_shared))]
 fn shared_second(held: &Windows, wanted: &Windows) -> Option<u16>
     ensures { result ≡ first_shared second_count (window held.now) (window wanted.now) }

@@ -6,7 +6,7 @@ mod tests {
     use kinds::{AmountRefusal, Bundle, Count, EngineAmount, Frames, Kind, Windows, engine_amount};
     use std::test::Fail;
 
-    // The number of the refusal, or 0 if there is none.
+    // The number of the refusal, or 0, which no refusal has: one column of numbers is plain to read.
     fn number_of(refused: Option<AmountRefusal>) -> u32 {
         refused.map_or(0, |refusal| refusal.number())
     }

@@ -1,7 +1,7 @@
 // The chains of banks: from a row to its parent and so on up to row 0.
-ghost use Rattle.std.specs.Prelude.{◌≡◌, ◌<◌, Bool, true, length, MatchOption};
+ghost use Rattle.std.specs.Prelude.{◌≡◌, ◌<◌, Bool, true, length};
 ghost use Rattle.std.specs.List.{AllByRecursion};
-ghost use Rattle.tables.specs.Tables.{among, bank_at, chain, lost};
+ghost use Rattle.tables.specs.Tables.{bank_at, chain};
 ghost use Rattle.tables.specs.Rows.{above, nearest};
 ghost use Rattle.lists.specs.Listed.{listed};
 ghost use Rattle.ledger.specs.Passes.{Tells};

@@ -23,7 +23,7 @@ fn is_gone<K: Kind>(bank: &Bank<K>, row: usize, gone: &[bool]) -> bool
     bank.live && is_marked(gone, row)
 }
 
-// Frees the marked banks.
+// Frees the marked banks. A loop of its own, and no pass with `hand_up_banks`: only the rows that go are written.
 pub(crate) fn free_banks<K: Kind>(banks: &mut [Bank<K>], gone: &[bool])
     ensures { banks.new ≡ each_at (freed_bank K.Kind.answers (marked gone.now)) 0 banks.old }
 {

@@ -41,7 +41,7 @@ impl<K: Kind> Ledger<'_, K> {
         Ok(serial)
     }
 
-    // Gives back the grant of that row and serial.
+    // Gives back the grant of that row and serial, two plain numbers as the owner keeps them.
     pub fn give_back(&mut self, row: u32, serial: u32) -> Result<u32, Refusal>
         ensures same { SameParts self.old self.new }
         ensures meets { Meets (backs K.Kind.answers (lent self.old) row serial) result (lent self.new) }
@@ -56,7 +56,7 @@ impl<K: Kind> Ledger<'_, K> {
         Ok(0)
     }
 
-    // Puts what the root bank has left in the caller's place.
+    // Puts what the root bank has left in the caller's place, as a view of the ledger does.
     pub fn stock(&self, place: &mut K) -> Result<u32, Refusal>
         ensures meets { Meets (stocks K.Kind.answers (lent self.now)) result (lent self.now) }
         ensures places { Places (stocks K.Kind.answers (lent self.now)) place.old place.new }

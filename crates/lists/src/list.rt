@@ -6,7 +6,7 @@ ghost use Rattle.std.specs.Prelude.{◌≡◌, ◌≤◌, length, ⊤};
 pub use growing::Full;
 use std::alloc::AllocError;
 
-// The items in order. Nothing allocates, and a list is copied with its items.
+// The items in order. Nothing allocates, and a list is copied with its items, as an `ArrayVec` is not.
 pub struct FixedList<T, const N: usize> {
     places: [T; N],
     used: usize,

@@ -16,7 +16,7 @@ pub fn read_number(bytes: &[u8]) -> Option<u32>
 }
 
 // The next piece, read as a number.
-// Not one function with `next_part`: one that takes the reader would require that it may be called.
+// Not one function with `next_part`: one that takes the reader, and requires that it may be called, is longer than both.
 pub fn next_number(source: &mut Pieces) -> Option<u32>
     ensures { Took number (left source.old) result (left source.new) }
 {

@@ -20,7 +20,7 @@ impl<'a> Pieces<'a> {
         Pieces { rest, mark }
     }
 
-    // The first of the pieces left; the others stay.
+    // The first of the pieces left; the others stay. No `Iterator`: callers take a few by name and ask whether any is left.
     pub fn next_piece(&mut self) -> Option<&'a [u8]>
         ensures { Gave (left self.old) result (left self.new) }
     {

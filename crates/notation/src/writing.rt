@@ -5,7 +5,7 @@ ghost use Rattle.std.specs.Prelude.{Some};
 use sets::Run;
 use std::fmt;
 
-// Runs, shown with commas between them, or as `-` where there is none.
+// Runs, shown with commas between them, or as `-` where there is none. A slice is the library's, so this type stands for it.
 #[derive(Clone, Copy)]
 pub struct Runs<'a>(pub &'a [Run]);
 

@@ -7,7 +7,7 @@ use kinds::EngineAmount;
 use notation::Runs;
 use std::fmt;
 
-// An amount: vehicles, frames and green. Its own type is another crate's, which shows it in other words.
+// An amount: vehicles, frames and green. Its own type is another crate's.
 #[derive(Clone, Copy)]
 pub struct AmountWords<'a>(pub &'a EngineAmount);
 

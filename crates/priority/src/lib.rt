@@ -6,7 +6,7 @@ ghost use Rattle.std.proofs.Common.{rules};
 
 use kind::Kind;
 
-// An amount of it: no call, or the call.
+// An amount of it: no call, or the call. Two names, where an `Option` of nothing would have none.
 #[derive(Clone, Copy, PartialEq)]
 pub enum Priority {
     NoCall,

@@ -73,7 +73,7 @@ impl From<Refusal> for LineRefusal {
 // What is replied to a line.
 pub type Reply = Result<Done, LineRefusal>;
 
-// A reply, shown as `ok` with the result and the amount, or as `no` with the number and the place of the refusal.
+// A reply, whose own type is the library's, shown as `ok` with the result and the amount, or as `no` with the number and the place of the refusal.
 #[derive(Clone, Copy)]
 pub struct ReplyText<'a>(pub &'a Reply);
 

@@ -4,6 +4,7 @@ use crate::seen::{Part, Seen, expect};
 use kinds::Count;
 use ledger::{Bank, Grant, Head, Ledger, Refusal};
 
+// The tables are arrays, whose lengths a trial gives.
 #[derive(Drop)]
 pub struct Books<const B: usize, const G: usize> {
     pub head: Head,
@@ -12,6 +13,7 @@ pub struct Books<const B: usize, const G: usize> {
     pub place: Count,
 }
 
+// A call of a ledger of counts; a trial stands on the ledger alone, so it has no command of a script.
 #[derive(Clone, Copy)]
 pub enum Call {
     // With this endowment.

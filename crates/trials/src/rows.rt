@@ -30,8 +30,8 @@ pub fn grant(bank: u32, serial: u32, amount: u32) -> Grant<Count> {
 
 // Writes a row, if the table has it.
 pub fn put<R: Copy>(table: &mut [R], row: usize, value: R) {
-    if row < table.len() {
-        table[row] = value;
+    if let Some(place) = table.get_mut(row) {
+        *place = value;
     }
 }
 

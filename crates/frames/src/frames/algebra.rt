@@ -24,6 +24,7 @@ impl Frames {
     }
 
     // The bits of the frames that both have, gathered in one byte: 0 if there is no such frame.
+    // One test at the end takes half the time of `all`, which tests each byte.
     fn shared_bits(&self, other: &Frames) -> u8
         ensures { result ≡ gathered bit_and self.now.bytes other.now.bytes }
     {
@@ -92,7 +93,7 @@ impl Kind for Frames {
         self.shared_bits(other) == 0
     }
 
-    // As for windows: one function for both would need a trait of its own, with `difference` and what it says.
+    // As for windows: one function for this and for `remainder` would need a trait of its own, with `difference` and what it says.
     fn join(&self, other: &Self) -> Self {
         if self.fits(other) {
             self.difference(other)
