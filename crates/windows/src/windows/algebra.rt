@@ -9,15 +9,6 @@ ghost use Rattle.windows.specs.WindowFacts.{window_sets};
 use crate::windows::{NO_RUNS, Windows};
 use kind::Kind;
 
-impl Windows {
-    // No second.
-    fn none() -> Windows
-        ensures { result ≡ windows_of (λ _. 0) }
-    {
-        Windows { runs: NO_RUNS }
-    }
-}
-
 impl Kind for Windows {
     ghost makes = { Unites };
 
@@ -46,7 +37,7 @@ impl Kind for Windows {
     ghost gives_remainder = { unions.gives_remainder window_sets };
 
     fn empty() -> Self {
-        Self::none()
+        Windows { runs: NO_RUNS }
     }
 
     // The runs stand from the first place on, so one look tells.
@@ -68,12 +59,12 @@ impl Kind for Windows {
             .any(|turn| turn.in_one && turn.in_other)
     }
 
-    // As for frames: one function for both would need a trait of its own, with `difference` and what it says.
+    // As for frames: one function for this and for `remainder` would need a trait of its own, with `difference` and what it says.
     fn join(&self, other: &Self) -> Self {
         if self.fits(other) {
             self.difference(other)
         } else {
-            Windows::none()
+            Self::empty()
         }
     }
 
@@ -88,7 +79,7 @@ impl Kind for Windows {
         if self.holds(part) {
             self.difference(part)
         } else {
-            Windows::none()
+            Self::empty()
         }
     }
 }

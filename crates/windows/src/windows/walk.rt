@@ -25,6 +25,7 @@ pub(crate) struct Turn {
 pub(crate) struct Walk<'a> {
     one: &'a Windows,
     other: &'a Windows,
+    // How many ends of each are passed: two places at once, which no `for` over one list has.
     passed_in_one: usize,
     passed_in_other: usize,
 }
