@@ -1,6 +1,6 @@
 -- The turns of a walk over two sets: each is a step over their ends, and those up to the last tell what seconds the sets share.
 use Rattle.std.proofs.Common.{◌≡◌, ℕ, ◌+◌, ◌%◌, ◌<◌, ◌≤◌, min, Bool, true, false, cond, not, ◌&&◌, eqb, ◌⊎◌, List, [], ◌∷◌, Some, None, Option, Decides, MatchOption, MatchBool, sym, refl, ap, ◌∙◌, subst, inl, inr, ⊎_elim, arith, Bor}
-use Rattle.std.proofs.lemmas.Bool.{false≢true, cases_lt, cond-true, cond-false, eqb-true, eq-eqb, ne_eqb, leb-false}
+use Rattle.std.proofs.lemmas.Bool.{false≢true, cases_lt, cond-true, cond-false, eqb-true, eq-eqb, ne_eqb, leb-false, le-leb}
 use Rattle.std.proofs.lemmas.Bool.Decides.{nat_tests}
 use Rattle.std.specs.Fn.{Called, CalledAt}
 use Rattle.std.specs.Iterator.{Yields, YieldsThen}
@@ -12,7 +12,7 @@ use Rattle.sets.proofs.Covering.{ends_rise, covered-at}
 use Rattle.sets.proofs.Rising.{Rises}
 use Rattle.sets.proofs.Walks.{Seen, Step, step, seen_step, step_covered, step_found, end_even}
 use Rattle.windows.specs.Sizes.{second_count, window_places}
-use Rattle.windows.specs.Walking.{end_at, next_end, passed, walked, turn_of, start_of, WalksOn}
+use Rattle.windows.specs.Walking.{end_at, next_end, passed, walked, other_left, turn_of, start_of, WalksOn}
 use Rattle.windows.specs.WindowSets.{window, Reaches}
 use Rattle.windows.specs.WindowFacts.{tidy_of}
 use Rattle.windows.specs.declared.windows.Windows.{Windows}
@@ -51,7 +51,7 @@ abbrev Both : Windows → Windows → ℕ → ℕ → Type 0
 Both x y v k = (window x k ≡ 1) × (window y k ≡ v)
 
 -- all ends below the next are passed, and no such second lies there
-record Unmet (v : ℕ) (w : Walk) : Type 0 where
+pub record Unmet (v : ℕ) (w : Walk) : Type 0 where
   seen : SeenBy w
   none : (k : ℕ) → k < next_end w → k < second_count → Both w.one.now w.other.now v k → ⊥
 
@@ -124,10 +124,40 @@ unmet_end v w u past (k, l, m, n) =
     absurd (omega (arith, out, m, even)))
     (cases_lt k (next_end w))
 
+-- once a turn says that no end of the one set is left, there is none
+pub one_ends : (v : ℕ) (w : Walk) → Unmet v w → (turn_of w).one_left ≡ false → Reaches w.one.now w.other.now v → ⊥
+one_ends v w u e = unmet_end v w u (leb-false _ _ e)
+
+-- the walk with the two sets exchanged
+exchanged : Walk → Walk
+exchanged w = record { one = w.other; other = w.one; passed_in_one = w.passed_in_other; passed_in_other = w.passed_in_one }
+
+unmet-exchanged : (w : Walk) → Unmet 1 w → Unmet 1 (exchanged w)
+unfolding exchanged
+unmet-exchanged w u = record {
+  seen = (λ q l. omega (arith, u.seen.1 q l), λ q l. omega (arith, u.seen.0 q l));
+  none = λ k l m b. u.none k (omega (arith, l)) m (b.1, b.0);
+}
+
+-- are ends of both sets left?
+abbrev pub both_left : Turn → Bool
+both_left t = t.one_left && t.other_left
+
+-- once a turn says that no end of one of the two is left, they share none
+pub either_ends : (w : Walk) → Unmet 1 w → both_left (turn_of w) ≡ false → Reaches w.one.now w.other.now 1 → ⊥
+unfolding exchanged
+either_ends w u e (k, l, m, n) =
+    ⊎_elim
+    (λ (past : second_count < end_at w.one.now w.passed_in_one). unmet_end 1 w u past (k, l, m, n))
+    (λ (left : end_at w.one.now w.passed_in_one ≤ second_count).
+    unmet_end 1 (exchanged w) (unmet-exchanged w u) (leb-false _ _ (sym (ap (λ b. b && other_left w) (le-leb _ _ left)) ∙ e)) (k, l, n, m))
+    (cases_lt second_count (end_at w.one.now w.passed_in_one))
+
 module _ {F P : Type 0} (g : Mut F (Turn × Unit {0}) Bool) (h : Mut P (Bor Turn × Unit {0}) Bool) (f : F) (p : P) (v : ℕ) (meets : Turn → Bool)
     (test : (t : Turn) → Decides (meets t) (Meets v t))
     (reads : (t : Turn) (b : Bool) (q : F) → Called g f (t, tt) b q → (q ≡ f) × (b ≡ meets t))
-    (keeps : (t : Turn) (b : Bool) (q : P) → CalledAt h p t b q → (q ≡ p) × (b ≡ t.one_left)) (x y : Bor Windows) where
+    (stays : Turn → Bool) (ends : (w : Walk) → Unmet v w → stays (turn_of w) ≡ false → Reaches w.one.now w.other.now v → ⊥)
+    (keeps : (t : Turn) (b : Bool) (q : P) → CalledAt h p t b q → (q ≡ p) × (b ≡ stays t)) (x y : Bor Windows) where
   abbrev walk : TakeWhile Walk P → Walk
   walk = take_while_source
 
@@ -151,8 +181,8 @@ module _ {F P : Type 0} (g : Mut F (Turn × Unit {0}) Bool) (h : Mut P (Bor Turn
   took : (s t : TakeWhile Walk P) (r : Option Turn) → Going s → Steps s r t → Took s r t
   took s t r on k = subst (λ b. MatchBool b ((r ≡ None) × (t ≡ s)) (Took s r t)) on.done k
 
-  -- the turn was handed on if an end was left
-  kept : (s t : TakeWhile Walk P) (z : Turn) (b : Bool) → Going s → CalledAt h (take_while_callee s) z b (take_while_callee t) → (take_while_callee t ≡ p) × (b ≡ z.one_left)
+  -- the turn was handed on if the walk stays there
+  kept : (s t : TakeWhile Walk P) (z : Turn) (b : Bool) → Going s → CalledAt h (take_while_callee s) z b (take_while_callee t) → (take_while_callee t ≡ p) × (b ≡ stays z)
   kept s t z b on k = keeps z b _ (subst (λ q. CalledAt h q z b (take_while_callee t)) on.callee k)
 
   -- a turn that comes is the walk's
@@ -162,11 +192,11 @@ module _ {F P : Type 0} (g : Mut F (Turn × Unit {0}) Bool) (h : Mut P (Bor Turn
   came s t z on (Some a, w, (false, called, k)) = absurd (cc (k.0))
   came s t z on (Some a, w, (true, called, k)) = let e : a ≡ z = cc (k.0) in (subst (λ b. WalksOn (walk s) (Some b) (walk t)) e w, (kept s t a true on called).0, k.1)
 
-  -- where none comes, no end of the one set is left
-  ended : (s t : TakeWhile Walk P) → Going s → Took s None t → second_count < end_at (walk s).one.now (walk s).passed_in_one
-  ended s t on (None, past, k) = omega (arith, past)
+  -- where none comes, there is none
+  ended : (s t : TakeWhile Walk P) → Going s → Took s None t → Reaches (walk s).one.now (walk s).other.now v → ⊥
+  ended s t on (None, past, k) = unmet_end v (walk s) on.unmet (omega (arith, past))
   ended s t on (Some a, w, (true, called, k)) = absurd (cc (k.0))
-  ended s t on (Some a, w, (false, called, k)) = leb-false _ _ (ap (λ z. z.one_left) (sym w.0) ∙ sym (kept s t a false on called).1)
+  ended s t on (Some a, w, (false, called, k)) = ends (walk s) on.unmet (ap stays (sym w.0) ∙ sym (kept s t a false on called).1)
 
   -- all turns that failed the test leave nothing found
   unmet_after : (zs : List Turn) (q j : F) (s t : TakeWhile Walk P) → q ≡ f → Going s → Yields Steps s zs t → FoldsTo (λ p z q. Called g p (z, tt) false q) q zs j
@@ -191,8 +221,7 @@ module _ {F P : Type 0} (g : Mut F (Turn × Unit {0}) Bool) (h : Mut P (Bor Turn
       → MatchOption o (r ≡ false) (λ z. (r ≡ true) × ((k : F) × Called g j (z, tt) true k))
       → Decides r (Reaches x.now y.now v)
   tells t u None r j same on n none =
-      let past = ended t u on (took t u None on n) in
-      (λ e. absurd (false≢true (sym none ∙ e)), λ m. absurd (unmet_end v (walk t) on.unmet past (rw (on.one, on.other) m)))
+      (λ e. absurd (false≢true (sym none ∙ e)), λ m. absurd (ended t u on (took t u None on n) (rw (on.one, on.other) m)))
   tells t u (Some z) r j same on n (found, (k, called)) =
       let ((is, _, low), _, _) = came t u z on (took t u (Some z) on n) in
       let said = reads z true k (subst (λ q. Called g q (z, tt) true k) same called) in

@@ -38,11 +38,16 @@ walked w = record w {
 abbrev pub one_left : Walk → Bool
 one_left w = nat_le (end_at w.one.now w.passed_in_one) second_count
 
+-- is an end of the other set left?
+abbrev pub other_left : Walk → Bool
+other_left w = nat_le (end_at w.other.now w.passed_in_other) second_count
+
 -- the turn at the next end: a set has the seconds after it if an odd number of ends is passed
 abbrev pub turn_of : Walk → Turn
 turn_of w = record {
   at = next_end w;
   one_left = one_left w;
+  other_left = other_left w;
   in_one = (walked w).passed_in_one % 2 == 1;
   in_other = (walked w).passed_in_other % 2 == 1;
 }

@@ -55,7 +55,7 @@ impl Kind for Windows {
     fn fits(&self, other: &Self) -> bool {
         !self
             .walk(other)
-            .take_while(|turn| turn.one_left)
+            .take_while(|turn| turn.one_left && turn.other_left)
             .any(|turn| turn.in_one && turn.in_other)
     }
 

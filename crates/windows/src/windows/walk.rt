@@ -16,6 +16,8 @@ pub(crate) struct Turn {
     pub(crate) at: u16,
     // False once `one` has no end left: it has no second from there on.
     pub(crate) one_left: bool,
+    // The same of `other`.
+    pub(crate) other_left: bool,
     pub(crate) in_one: bool,
     pub(crate) in_other: bool,
 }
@@ -53,6 +55,7 @@ impl Iterator for Walk<'_> {
         Some(Turn {
             at,
             one_left: one.is_some(),
+            other_left: other.is_some(),
             in_one: self.passed_in_one % 2 == 1,
             in_other: self.passed_in_other % 2 == 1,
         })
