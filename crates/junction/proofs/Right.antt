@@ -3,8 +3,10 @@ use Rattle.std.proofs.Common.{◌≡◌, ℕ, ◌+◌, ◌<◌, ◌≤◌, Bool,
 use Rattle.std.proofs.lemmas.Bool.{true≢false, and_parts, and_from, leb-false, cases_lt, cond-true, cond-false}
 use Rattle.count.specs.Counts.{count_answers}
 use Rattle.frames.specs.FrameSets.{frame, frames_answers}
+use Rattle.frames.specs.declared.frames.Frames.{Frames}
 use Rattle.frames.specs.FrameFacts as frame-facts
 use Rattle.windows.specs.WindowSets.{window, windows_answers}
+use Rattle.windows.specs.declared.windows.Windows.{Windows}
 use Rattle.windows.specs.WindowFacts as window-facts
 use Rattle.sets.proofs.Answering.{is-apart, not-apart}
 use Rattle.sets.proofs.Unions.{Sets}
@@ -29,6 +31,20 @@ shared-apart {A} {n} {at} {of} sets x y = by (first_shared n (at x) (at y)) (sha
         (λ (le : at x k + at y k ≤ 1). le)
         (cases_lt 1 (at x k + at y k))))
     by (Some k) w = (sym (not-apart sets x y (λ h. omega (arith, h k w.0, w.1, w.2))), w.0, w.1, w.2)
+
+-- sets that are apart share no number
+none-shared : {A : Type 0} {n : ℕ} {at : A → ℕ → ℕ} {of : (ℕ → ℕ) → A} → Sets n at of → (x y : A) → apart n at x y ≡ true → first_shared n (at x) (at y) ≡ None
+none-shared {A} {n} {at} {of} sets x y e = by (first_shared n (at x) (at y)) (shared-apart sets x y)
+  where
+    by : (r : Option ℕ) → MatchOption r (apart n at x y ≡ true) (λ k. (apart n at x y ≡ false) × (k < n) × (at x k ≡ 1) × (at y k ≡ 1)) → r ≡ None
+    by None none = refl
+    by (Some k) w = absurd (true≢false (sym e ∙ w.0))
+
+pub no_shared_frame : (x y : Frames) → frames_answers.fits x y ≡ true → first_shared 256 (frame x) (frame y) ≡ None
+no_shared_frame = none-shared frame-facts.frame_sets
+
+pub no_shared_second : (x y : Windows) → windows_answers.fits x y ≡ true → first_shared 128 (window x) (window y) ≡ None
+no_shared_second = none-shared window-facts.window_sets
 
 module _ (held a : Engine) where
   abbrev vehicles : Bool

@@ -12,19 +12,25 @@ use kind::Kind;
 use kinds::EngineAmount;
 use windows::{SECONDS, Windows};
 
-// The first frame that both have.
-#[tactic(auto, unfolding(crate::specs::Verdicts::first_shared))]
+// The first frame that both have. Where they fit there is none, and none is looked for.
+#[tactic(auto, using(crate::proofs::Right::no_shared_frame), unfolding(crate::specs::Verdicts::first_shared))]
 fn shared_frame(held: &Frames, wanted: &Frames) -> Option<u16>
     ensures { result ≡ first_shared frame_count (frame held.now) (frame wanted.now) }
 {
+    if held.fits(wanted) {
+        return None;
+    }
     (0..FRAMES as u16).find(|k| held.has(*k as u8) && wanted.has(*k as u8))
 }
 
-// The first second that both have. A trait that has `has`, or a function of two closures, would be longer than these two lines.
-#[tactic(auto, unfolding(crate::specs::Verdicts::first_shared))]
+// The first second that both have, likewise. A trait that has `has`, or a function of two closures, would be longer than these lines.
+#[tactic(auto, using(crate::proofs::Right::no_shared_second), unfolding(crate::specs::Verdicts::first_shared))]
 fn shared_second(held: &Windows, wanted: &Windows) -> Option<u16>
     ensures { result ≡ first_shared second_count (window held.now) (window wanted.now) }
 {
+    if held.fits(wanted) {
+        return None;
+    }
     (0..SECONDS).find(|k| held.has(*k as u8) && wanted.has(*k as u8))
 }
 

@@ -6,4 +6,4 @@ mod report;
 mod text;
 
 pub use report::write_report;
-pub use text::{AmountWords, RefusalWords};
+pub use text::{AmountWords, RefusalWords, VerdictWords};

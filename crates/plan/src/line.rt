@@ -3,7 +3,7 @@ ghost use Rattle.plan.specs.Reports.{report_text, line_report, held_line};
 ghost use Rattle.stages.specs.Stages.{stage};
 ghost use Rattle.std.specs.Prelude.{◌≡◌, Some};
 
-use crate::text::{AmountWords, RefusalWords};
+use crate::text::{AmountWords, RefusalWords, VerdictWords};
 use junction::{Conflict, add};
 use kind::AmountRefusal;
 use kinds::EngineAmount;
@@ -41,10 +41,8 @@ impl fmt::Display for LineReport<'_> {
                 verdict,
             } => {
                 let amount = AmountWords(amount);
-                match verdict {
-                    Ok(()) => write!(f, "{name} takes {amount}: added"),
-                    Err(conflict) => write!(f, "{name} takes {amount}: does not fit, {conflict}"),
-                }
+                let verdict = VerdictWords(*verdict);
+                write!(f, "{name} takes {amount}: {verdict}")
             }
         }
     }

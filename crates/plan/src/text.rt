@@ -1,7 +1,8 @@
-// Amounts and refusals in words.
-ghost use Rattle.plan.specs.Reports.{words_text, reason_text, refusal_text};
+// Amounts, verdicts and refusals in words.
+ghost use Rattle.plan.specs.Reports.{words_text, verdict_text, reason_text, refusal_text};
 ghost use Rattle.std.specs.Prelude.{◌≡◌, Some};
 
+use junction::Conflict;
 use kind::AmountRefusal;
 use kinds::EngineAmount;
 use notation::Runs;
@@ -20,6 +21,21 @@ impl fmt::Display for AmountWords<'_> {
         let frames = Runs(list.as_slice());
         let windows = Runs(self.0.second.second.runs());
         write!(f, "{count} vehicles, frames {frames}, green {windows}")
+    }
+}
+
+// What came of a stage. Its own type is the library's.
+#[derive(Clone, Copy)]
+pub struct VerdictWords(pub Result<(), Conflict>);
+
+impl fmt::Display for VerdictWords {
+    ghost output = { λ t. Some (verdict_text t.0) };
+
+    fn fmt<W: fmt::Write>(&self, f: &mut fmt::Formatter<W>) -> fmt::Result {
+        match self.0 {
+            Ok(()) => write!(f, "added"),
+            Err(conflict) => write!(f, "does not fit, {conflict}"),
+        }
     }
 }
 
