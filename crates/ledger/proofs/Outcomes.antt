@@ -16,7 +16,7 @@ pub states : {A : Type 0} {l m : ℕ} {bs cs : List (Bank A)} {gs hs : List (Gra
 states p q r = cc
 
 module _ {A : Type 0} (q : Answers A) where
-  accepts : (x : Option Refusal) (s t : State A) (o : Outcome A) (r : Result ℕ Refusal) → None ≡ x → Meets o r t → Meets (unless q x s o) r t
+  pub accepts : (x : Option Refusal) (s t : State A) (o : Outcome A) (r : Result ℕ Refusal) → None ≡ x → Meets o r t → Meets (unless q x s o) r t
   accepts x s t o r e h = subst (λ y. Meets (unless q y s o) r t) e h
 
   -- a ledger is set up: what was written
