@@ -7,8 +7,12 @@ ghost use Rattle.windows.specs.Sizes.{second_count, window_places};
 ghost use Rattle.windows.specs.Walking.{GivesEnd, WalksOn, start_of};
 ghost use Rattle.windows.specs.WindowSets.{window, windows_answers};
 
-use crate::windows::{NO_RUNS, PLACES, Windows};
+use crate::windows::{NO_RUNS, PLACES, SECONDS, Windows};
 use sets::Run;
+
+// What stands for the end of a set that has none left: it lies past every end, so that two numbers are compared and not
+// two that may be missing.
+const PAST: u16 = SECONDS + 1;
 
 // A second from which on one of two sets has the seconds, or has them no more.
 #[derive(Clone, Copy)]
@@ -40,22 +44,22 @@ impl Iterator for Walk<'_> {
     ghost remaining = { λ w. at_most ((window_places * 2 - w.passed_in_one) + (window_places * 2 - w.passed_in_other)) };
 
     fn next(&mut self) -> Option<Turn> {
-        let one = self.one.end(self.passed_in_one);
-        let other = self.other.end(self.passed_in_other);
-        let at = match (one, other) {
-            (Some(one), Some(other)) => one.min(other),
-            _ => one.or(other)?,
-        };
-        if one == Some(at) {
+        let one = self.one.end(self.passed_in_one).unwrap_or(PAST);
+        let other = self.other.end(self.passed_in_other).unwrap_or(PAST);
+        let at = one.min(other);
+        if at == PAST {
+            return None;
+        }
+        if one <= other {
             self.passed_in_one += 1;
         }
-        if other == Some(at) {
+        if other <= one {
             self.passed_in_other += 1;
         }
         Some(Turn {
             at,
-            one_left: one.is_some(),
-            other_left: other.is_some(),
+            one_left: one < PAST,
+            other_left: other < PAST,
             in_one: self.passed_in_one % 2 == 1,
             in_other: self.passed_in_other % 2 == 1,
         })
