@@ -45,11 +45,16 @@ impl Kind for Windows {
         self.runs[0].to == 0
     }
 
+    // Runs stand from the first place on, so none past the first that neither uses is looked at.
     fn same(&self, other: &Self) -> bool
         ensures equal { Decides result (self.now ≡ other.now) }
         ensures by_members { Decides result (SameMembers second_count window self.now other.now) }
     {
-        self.runs() == other.runs()
+        self.runs
+            .iter()
+            .zip(&other.runs)
+            .take_while(|(x, y)| x.to > 0 || y.to > 0)
+            .all(|(x, y)| x.from == y.from && x.to == y.to)
     }
 
     fn fits(&self, other: &Self) -> bool {

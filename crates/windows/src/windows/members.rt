@@ -20,14 +20,17 @@ impl Windows {
         Ok(Windows { runs })
     }
 
-    // Is this second in the set?
+    // Is this second in the set? Runs rise, so none that begins above it is looked at.
     pub fn has(&self, second: u8) -> bool
         ensures { Decides result (window self.now second ≡ 1) }
     {
         let second = u16::from(second);
-        self.runs()
-            .iter()
-            .any(|run| run.from <= second && second < run.to)
+        second < SECONDS
+            && self
+                .runs
+                .iter()
+                .take_while(|run| run.to > 0 && run.from <= second)
+                .any(|run| second < run.to)
     }
 
     // The longest runs of the seconds, lowest first.
