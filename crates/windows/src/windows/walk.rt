@@ -85,7 +85,7 @@ impl Windows {
     fn end(&self, i: usize) -> Option<u16>
         ensures { GivesEnd self.now i result }
     {
-        let run = self.runs.get(i / 2)?;
+        let run = *self.runs.get(i / 2)?;
         let end = if i % 2 == 0 { run.from } else { run.to };
         (run.to > 0).then_some(end)
     }

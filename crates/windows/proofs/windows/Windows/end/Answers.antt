@@ -41,7 +41,7 @@ returns c =
     let i = c.args.i in
     let h = c.in_ok-run.ensures.lookup in
     subst (GivesEnd x i) (sym c.then_some.ensures)
-    (of_place x i c.in_ok-run.run'.now c.if-i-eq0.end (omega (arith, (tidy_of x).0, h.3.0)) (h.3.1 blank)
+    (of_place x i c.in_ok-run.field-0.now c.if-i-eq0.end (omega (arith, (tidy_of x).0, h.3.0)) (h.3.1 blank)
     (elim c.if-i-eq0.branch [
       | then-i-eq0 w ↦ inl (w.if-i-eq0.true, w.end-is)
       | else-i-eq0 w ↦ inr (omega (arith, w.if-i-eq0.false), w.end-is)
