@@ -46,8 +46,7 @@ impl Iterator for Walk<'_> {
     fn next(&mut self) -> Option<Turn> {
         let one = self.one.end(self.passed_in_one).unwrap_or(PAST);
         let other = self.other.end(self.passed_in_other).unwrap_or(PAST);
-        let at = one.min(other);
-        if at == PAST {
+        if one >= PAST && other >= PAST {
             return None;
         }
         if one <= other {
@@ -57,7 +56,7 @@ impl Iterator for Walk<'_> {
             self.passed_in_other += 1;
         }
         Some(Turn {
-            at,
+            at: one.min(other),
             one_left: one < PAST,
             other_left: other < PAST,
             in_one: self.passed_in_one % 2 == 1,
