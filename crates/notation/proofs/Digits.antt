@@ -14,7 +14,7 @@ use Rattle.std.specs.Char.{is_ascii_digit}
 use Rattle.std.specs.Str.{all_ascii_digits}
 use Rattle.notation.specs.Numbers.{number}
 
--- `allDigits` tells digits
+-- `all_ascii_digits` tells digits
 pub own : IsNumeralModel (λ ds. all_ascii_digits ds ≡ true) (digits_value 10)
 own = numerals_by_value _ tells_all_ascii_digits
 

@@ -1,9 +1,8 @@
 -- The runs of a choice of numbers: they are in order, few, and cover just those numbers.
-use Rattle.std.proofs.Common.{◌≡◌, ℕ, zero, suc, ◌+◌, ◌-◌, ◌*◌, ◌<◌, ◌≤◌, min, max, Bool, true, false, cond, ◌&&◌, ◌||◌, eqb, ltb, leb, List, [], ◌∷◌, ◌++◌, length, replicate, sym, refl, ap, ◌∙◌, subst, ⊎_elim, arith}
+use Rattle.std.proofs.Common.{◌≡◌, ℕ, zero, suc, ◌+◌, ◌-◌, ◌*◌, ◌<◌, ◌≤◌, min, max, true, false, eqb, List, [], ◌∷◌, ◌++◌, length, replicate, sym, refl, ap, ◌∙◌, subst, ⊎_elim, arith}
 use Rattle.std.proofs.lemmas.List.{length-append, length-replicate}
 use Rattle.std.proofs.lemmas.Bool.{and_from, cases_Bool, cases_eq, cond-true, cond-false, eqb-true, eqb-false, eq-eqb, ne_eqb, le-leb, lt-ltb}
 use Rattle.std.proofs.lemmas.Bool.Decides.{nat_tests}
-use Rattle.std.specs.List.{list_any}
 use Rattle.sets.specs.Runs.{run, is_run, blank, is_blank, within, covered, all_blank, ordered, tidy, put_before, runs_from, runs_of, in_places}
 use Rattle.sets.specs.declared.run.Run.{Run}
 
@@ -116,18 +115,6 @@ scan_covered f n (suc d) k j e le lt =
     omega (arith, later ne))
     (cases_eq j k))
     (cases_eq (f k) 0)
-
-either : (a b : Bool) → max (cond a 1 0) (cond b 1 0) ≡ cond (a || b) 1 0
-either true true = refl
-either true false = refl
-either false true = refl
-either false false = refl
-
--- a number is covered if one of the runs has it
-pub covered_any : (rs : List Run) (k : ℕ) → covered rs k ≡ cond (list_any (λ r. leb r.from k && ltb k r.to) rs) 1 0
-unfolding covered
-covered_any [] k = refl
-covered_any (r ∷ rs) k = ap (max (within r.from r.to k)) (covered_any rs k) ∙ either (leb r.from k && ltb k r.to) _
 
 -- ---- in m places
 

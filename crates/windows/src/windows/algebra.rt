@@ -2,7 +2,7 @@
 ghost use Rattle.sets.specs.Members.{SameMembers};
 ghost use Rattle.std.specs.Prelude.{◌≡◌, Decides};
 ghost use Rattle.windows.specs.Sizes.{second_count};
-ghost use Rattle.windows.specs.WindowSets.{window, windows_of, Unites, windows_answers};
+ghost use Rattle.windows.specs.WindowSets.{window, Unites, windows_answers};
 ghost use Rattle.sets.proofs.Unions as unions;
 ghost use Rattle.windows.specs.WindowFacts.{window_sets};
 

@@ -20,7 +20,7 @@ impl Windows {
         Ok(Windows { runs })
     }
 
-    // Is this second in the set? Runs rise, so none that begins above it is looked at.
+    // Is this second in the set? Runs rise, so none past the first that begins above it is looked at.
     pub fn has(&self, second: u8) -> bool
         ensures { Decides result (window self.now second ≡ 1) }
     {

@@ -1,5 +1,5 @@
 use Rattle.std.proofs.Common.{◌≡◌, ℕ, ◌<◌, ◌≤◌, true, sym, ◌∙◌, arith, rules, tests}
-use Rattle.sets.specs.Members.{vacant, apart}
+use Rattle.sets.specs.Members.{vacant}
 use Rattle.sets.proofs.Answering.{apart_from, is-apart}
 use Rattle.sets.proofs.Unions.{all_leb}
 use Rattle.windows.specs.Sizes.{second_count}
